@@ -1,5 +1,5 @@
 -- Texts that are changed.
-use Rattle.std.specs.Prelude.{ℕ, ◌≡◌, cond, nat_le, List, [], ◌∷◌, ◌++◌, Option, None, Some, option_and_then, take, drop, string_bytes}
+use Rattle.std.specs.Prelude.{ℕ, cond, nat_le, List, [], ◌∷◌, ◌++◌, Option, None, Some, option_and_then, take, drop, string_bytes}
 use Rattle.lsp_positions.specs.Positions.{offset_of}
 use Rattle.lsp_positions.specs.declared.position.Encoding.{Encoding}
 use Rattle.lsp_documents.specs.declared.change.Change.{Change}
@@ -16,7 +16,8 @@ replaced_between text start end new = cond (nat_le start end) (Some (replaced te
 -- The text once a part of it is changed, and all of it where no range is told. A range whose end stands before its start changes nothing.
 abbrev pub changed_in : Encoding → List ℕ → Option Range → List ℕ → Option (List ℕ)
 changed_in encoding text None new = Some new
-changed_in encoding text (Some range) new = replaced_between text (offset_of encoding text range.start) (offset_of encoding text range.end) new
+changed_in encoding text (Some range) new =
+    replaced_between text (offset_of encoding text range.start) (offset_of encoding text range.end) new
 
 abbrev pub changed : Encoding → List ℕ → Change → Option (List ℕ)
 changed encoding text change = changed_in encoding text change.range (string_bytes change.text)

@@ -4,5 +4,4 @@ ghost use Rattle.lsp_documents.specs.Example.{Examples};
 /// A small text is changed as it was worked out by hand.
 pub fn small_examples()
     ensures { Examples }
-{
-}
+{}

@@ -1,12 +1,12 @@
 -- What is known once the bytes are looked at.
-use Rattle.std.proofs.Common.{◌≡◌, refl, ap, sym, ◌∙◌, ℕ, ◌+◌, ◌-◌, ◌<◌, ◌≤◌, ◌⊎◌, inl, inr, min, List, length, take, drop, Option, None, Some, Result, Ok, Err, arith}
+use Rattle.std.proofs.Common.{◌≡◌, ap, sym, ◌∙◌, ℕ, ◌+◌, ◌-◌, ◌<◌, ◌≤◌, ◌⊎◌, inl, inr, min, List, length, take, None, Some, Result, Ok, Err, arith}
 use Rattle.std.proofs.Math.Nat.{min-eq_left, min-eq_right}
 use Rattle.std.proofs.lemmas.List.{take_all}
 use Rattle.std.proofs.lemmas.Bool.{cases_lt}
 use Rattle.lsp_frames.specs.Marks.{blank_line, first_place}
 use Rattle.lsp_frames.specs.Fields.{length_in}
 use Rattle.lsp_frames.specs.Frames as f
-use Rattle.lsp_frames.specs.Frames.{head_of, head_at, head_told, most_header, Head}
+use Rattle.lsp_frames.specs.Frames.{head_of, head_at, head_told, most_header}
 use Rattle.lsp_frames.specs.Seen.{Knows, head_seen}
 use Rattle.lsp_frames.specs.declared.field.FrameFault.{FrameFault}
 use Rattle.lsp_frames.specs.declared.seen.Seen.{Seen}

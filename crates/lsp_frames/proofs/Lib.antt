@@ -6,3 +6,4 @@ pub mod Streams
 pub mod Written
 pub mod Heads
 pub mod Readers
+pub mod Shapes

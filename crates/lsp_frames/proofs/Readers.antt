@@ -1,11 +1,10 @@
 -- Readers to which bytes come, and that forget bytes.
 use Rattle.std.proofs.Common.{◌≡◌, ap, sym, ◌∙◌, subst, ℕ, ◌+◌, ◌<◌, ◌≤◌, Bool, true, false, if◌then◌else◌, List, [], ◌∷◌, ◌++◌, length, take, drop, Option, slice_index_or, arith, length-append}
-use Rattle.std.proofs.lemmas.List.{drop-append-le, take_all, take_more, append_assoc, append-nil, map_push, drop-drop}
+use Rattle.std.proofs.lemmas.List.{drop-append-le, take_all, take_more, append_assoc, append-nil, map_push}
 use Rattle.std.specs.List.{flat_map}
 use Rattle.std.specs.declared.vec.Vec.{Vec}
 use Rattle.std.specs.Global.{Global}
-use Rattle.lsp_frames.specs.Marks.{blank_line, NoneBefore}
-use Rattle.lsp_frames.specs.Frames.{Front, Whole, front, Leaves, messages_of, Stream}
+use Rattle.lsp_frames.specs.Frames.{Whole, front, Leaves, messages_of}
 use Rattle.lsp_frames.specs.Seen.{Knows, Ends, front_told}
 use Rattle.lsp_frames.specs.Reader.{IsReader}
 use Rattle.lsp_frames.specs.Read.{contents_of, LeavesBehind, fault_of}
@@ -49,7 +48,6 @@ nothing_read items reader e h = subst (λ (vs : List (Vec ℕ Global)). Leaves [
 pub nothing_stands : (reader : List ℕ) → reader ≡ [] → Ends (front reader)
 nothing_stands reader h = subst (λ (l : List ℕ). Ends (front l)) (sym h) tt
 
-
 joined : (xs : List (Vec ℕ Global)) (y : Vec ℕ Global) → flat_map (λ piece. piece.items) (xs ++ y ∷ []) ≡ flat_map (λ piece. piece.items) xs ++ y.items
 joined [] y = append-nil y.items
 joined (x ∷ xs) y = ap (λ (l : List ℕ). x.items ++ l) (joined xs y) ∙ sym (append_assoc x.items (flat_map (λ piece. piece.items) xs) y.items)
@@ -59,10 +57,10 @@ pub piece_more : (pieces : List (Vec ℕ Global)) (i : ℕ) (item : Vec ℕ Glob
     Leaves (flat_map (λ piece. piece.items) (take (i + 1) pieces)) contents pushed
 piece_more pieces i item reader pushed piece contents within read same added h =
     let front : flat_map (λ piece. piece.items) (take (i + 1) pieces) ≡ flat_map (λ piece. piece.items) (take i pieces) ++ item.items =
-        ap (flat_map (λ piece. piece.items)) (take_more pieces i item within ∙ ap (λ (v : Vec ℕ Global). take i pieces ++ v ∷ []) (sym read)) ∙ joined (take i pieces) item in
+    ap (flat_map (λ piece. piece.items)) (take_more pieces i item within ∙ ap (λ (v : Vec ℕ Global). take i pieces ++ v ∷ []) (sym read)) ∙ joined (take i pieces) item in
     subst (λ (l : List ℕ). Leaves l contents pushed) (sym front)
     (subst (λ (l : List ℕ). Leaves (flat_map (λ piece. piece.items) (take i pieces) ++ item.items) contents l) (sym (added ∙ ap (λ (l : List ℕ). reader ++ l) same))
-        (leaves_more (flat_map (λ piece. piece.items) (take i pieces)) item.items contents reader h))
+    (leaves_more (flat_map (λ piece. piece.items) (take i pieces)) item.items contents reader h))
 
 pub all_pieces : (pieces : List (Vec ℕ Global)) (i : ℕ) (contents : List (List ℕ)) (reader : List ℕ) (fault : Option FrameFault) → length pieces ≤ i →
     Leaves (flat_map (λ piece. piece.items) (take i pieces)) contents reader → front reader ≡ fault_of fault →

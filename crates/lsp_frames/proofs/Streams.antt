@@ -1,18 +1,18 @@
 -- What is read of a stream stays so once more bytes come.
-use Rattle.std.proofs.Common.{◌≡◌, refl, ap, sym, ◌∙◌, subst, ℕ, zero, suc, ◌+◌, ◌-◌, ◌<◌, ◌≤◌, ◌⊎◌, inl, inr, Bool, true, false, cond, List, [], ◌∷◌, ◌++◌, length, take, drop, Option, None, Some, Result, Ok, Err, nat_le, arith, length-append, length-drop, length-take}
-use Rattle.std.proofs.lemmas.List.{take-append-le, drop-append-le, take_all}
+use Rattle.std.proofs.Common.{◌≡◌, refl, ap, sym, ◌∙◌, ℕ, zero, suc, ◌+◌, ◌-◌, ◌<◌, ◌≤◌, ◌⊎◌, inl, inr, Bool, true, false, cond, List, [], ◌∷◌, ◌++◌, length, take, drop, Option, None, Some, Result, Ok, Err, nat_le, arith, length-append, length-drop, length-take}
+use Rattle.std.proofs.lemmas.List.{take-append-le, drop-append-le}
 use Rattle.std.proofs.lemmas.Bool.{cases_lt}
 use Rattle.std.proofs.lemmas.Bool.Decides.{nat_tests}
-use Rattle.lsp_frames.specs.Marks.{blank_line, first_place, begins}
+use Rattle.lsp_frames.specs.Marks.{blank_line, first_place}
 use Rattle.lsp_frames.specs.Fields.{length_in}
-use Rattle.lsp_frames.specs.Frames.{Head, Open, Bad, Told, head_of, head_at, head_told, most_header, Front, More, Faulty, Whole, front, front_by, Leaves, Stream, with_first, messages_of, messages_from}
+use Rattle.lsp_frames.specs.Frames.{Head, Open, Bad, Told, head_of, head_at, head_told, most_header, More, Whole, front, front_by, Leaves, with_first, messages_from}
 use Rattle.lsp_frames.specs.Seen.{Knows}
 use Rattle.lsp_frames.specs.Read.{fault_of}
 use Rattle.lsp_frames.specs.declared.field.FrameFault.{FrameFault}
 use Rattle.lsp_frames.specs.declared.field.FrameFault.TheVariants.{HeaderTooLong}
 use Rattle.lsp_frames.specs.declared.seen.Seen.{Seen}
 use Rattle.lsp_frames.specs.declared.seen.Seen.TheVariants as s
-use Rattle.lsp_frames.proofs.Marks.{IsFirst, first_is, first_more, none_more, take_of_both}
+use Rattle.lsp_frames.proofs.Marks.{first_is, first_more, none_more, take_of_both}
 
 pub is_le : (m n : ℕ) → m ≤ n → nat_le m n ≡ true
 is_le m n h = grind (arith, nat_tests)
@@ -34,8 +34,8 @@ head_more bytes more = go (window bytes) refl
         let same : take most_header (bytes ++ more) ≡ take most_header bytes = take-append-le most_header bytes more long in
         let here : head_of bytes ≡ Bad HeaderTooLong = ap (head_at bytes) e ∙ ap (λ t. cond t (Bad HeaderTooLong) Open) (is_le most_header (length bytes) long) in
         let there : head_of (bytes ++ more) ≡ Bad HeaderTooLong =
-            ap (head_at (bytes ++ more)) (ap (first_place blank_line) same ∙ e)
-            ∙ ap (λ t. cond t (Bad HeaderTooLong) Open) (is_le most_header (length (bytes ++ more)) (omega (arith, sum, long))) in
+        ap (head_at (bytes ++ more)) (ap (first_place blank_line) same ∙ e)
+        ∙ ap (λ t. cond t (Bad HeaderTooLong) Open) (is_le most_header (length (bytes ++ more)) (omega (arith, sum, long))) in
         inr (there ∙ sym here)
 
     go : (found : Option ℕ) → window bytes ≡ found → (head_of bytes ≡ Open) ⊎ (head_of (bytes ++ more) ≡ head_of bytes)
@@ -44,8 +44,8 @@ head_more bytes more = go (window bytes) refl
         let f = first_is blank_line (take most_header bytes) place e in
         let few = length-take most_header bytes in
         let there : window (bytes ++ more) ≡ Some place =
-            ap (first_place blank_line) (take_of_both most_header bytes more)
-            ∙ first_more blank_line (take most_header bytes) (take (most_header - length bytes) more) place e in
+        ap (first_place blank_line) (take_of_both most_header bytes more)
+        ∙ first_more blank_line (take most_header bytes) (take (most_header - length bytes) more) place e in
         let same : take place (bytes ++ more) ≡ take place bytes = take-append-le place bytes more (omega (arith, few, f.within)) in
         inr (ap (head_at (bytes ++ more)) there ∙ ap (λ (l : List ℕ). head_told (place + 4) (length_in l)) same ∙ sym (ap (head_at bytes) e))
 
@@ -80,11 +80,11 @@ whole_is bytes content rest e = go (head_of bytes) refl e
         front_by bytes (Told start size) ≡ Whole content rest → IsWhole bytes content rest
     told start size head (inl short) h =
         let wrong : More ≡ Whole content rest =
-            sym (ap (λ t. cond t (Whole (take size (drop start bytes)) (drop (start + size) bytes)) More) (is_more (start + size) (length bytes) short)) ∙ h in
+        sym (ap (λ t. cond t (Whole (take size (drop start bytes)) (drop (start + size) bytes)) More) (is_more (start + size) (length bytes) short)) ∙ h in
         absurd (cc wrong)
     told start size head (inr long) h =
         let found_whole : Whole (take size (drop start bytes)) (drop (start + size) bytes) ≡ Whole content rest =
-            sym (ap (λ t. cond t (Whole (take size (drop start bytes)) (drop (start + size) bytes)) More) (is_le (start + size) (length bytes) long)) ∙ h in
+        sym (ap (λ t. cond t (Whole (take size (drop start bytes)) (drop (start + size) bytes)) More) (is_le (start + size) (length bytes) long)) ∙ h in
         record { start = start; size = size; head = head; within = long; content_is = cc found_whole; rest_is = cc found_whole }
 
     go : (head : Head) → head_of bytes ≡ head → front_by bytes head ≡ Whole content rest → IsWhole bytes content rest
@@ -95,9 +95,6 @@ whole_is bytes content rest e = go (head_of bytes) refl e
 pub front_more : (bytes more content rest : List ℕ) → front bytes ≡ Whole content rest → front (bytes ++ more) ≡ Whole content (rest ++ more)
 front_more bytes more content rest e = go (head_more bytes more)
   where
-
-
-
     at : (v : IsWhole bytes content rest) → head_of (bytes ++ more) ≡ Told v.start v.size → front (bytes ++ more) ≡ Whole content (rest ++ more)
     at v head =
         let sum = length-append bytes more in
@@ -105,9 +102,9 @@ front_more bytes more content rest e = go (head_more bytes more)
         let fits : nat_le (v.start + v.size) (length (bytes ++ more)) ≡ true = is_le (v.start + v.size) (length (bytes ++ more)) (omega (arith, sum, v.within)) in
         let inner : drop v.start (bytes ++ more) ≡ drop v.start bytes ++ more = drop-append-le v.start bytes more (omega (arith, v.within)) in
         let content_same : take v.size (drop v.start (bytes ++ more)) ≡ content =
-            ap (take v.size) inner ∙ take-append-le v.size (drop v.start bytes) more (omega (arith, left, v.within)) ∙ sym v.content_is in
+        ap (take v.size) inner ∙ take-append-le v.size (drop v.start bytes) more (omega (arith, left, v.within)) ∙ sym v.content_is in
         let rest_same : drop (v.start + v.size) (bytes ++ more) ≡ rest ++ more =
-            drop-append-le (v.start + v.size) bytes more v.within ∙ ap (λ (l : List ℕ). l ++ more) (sym v.rest_is) in
+        drop-append-le (v.start + v.size) bytes more v.within ∙ ap (λ (l : List ℕ). l ++ more) (sym v.rest_is) in
         ap (front_by (bytes ++ more)) head ∙ (λ i. cond (fits i) (Whole (content_same i) (rest_same i)) More)
 
     go : (head_of bytes ≡ Open) ⊎ (head_of (bytes ++ more) ≡ head_of bytes) → front (bytes ++ more) ≡ Whole content (rest ++ more)

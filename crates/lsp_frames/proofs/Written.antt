@@ -1,19 +1,19 @@
 -- What is written is read.
-use Rattle.std.proofs.Common.{◌≡◌, refl, ap, sym, ◌∙◌, subst, ℕ, zero, suc, ◌+◌, ◌*◌, ◌-◌, ◌^◌, ◌<◌, ◌≤◌, ◌⊎◌, inl, inr, Bool, true, false, cond, ◌&&◌, not, List, [], ◌∷◌, ◌++◌, length, take, drop, reverse, Option, None, Some, Result, Ok, Err, nat_eq, nat_le, arith, length-append, append_assoc, append-nil}
+use Rattle.std.proofs.Common.{◌≡◌, refl, ap, sym, ◌∙◌, subst, ℕ, zero, suc, ◌+◌, ◌*◌, ◌-◌, ◌^◌, ◌<◌, ◌≤◌, true, false, cond, ◌&&◌, not, List, [], ◌∷◌, ◌++◌, length, take, drop, reverse, None, Some, Ok, Err, nat_eq, nat_le, arith, length-append, append_assoc, append-nil}
 use Rattle.std.specs.Prelude.{codes, decimal}
 use Rattle.std.specs.Char.{is_ascii_digit, digit_value}
 use Rattle.std.specs.List.{list_all}
-use Rattle.std.specs.Str.Parse.{AllDigits, digits_value, digits_value_after}
+use Rattle.std.specs.Str.Parse.{AllDigits, digits_value_after}
 use Rattle.std.proofs.lemmas.Bool.Decides.{nat_tests}
-use Rattle.std.proofs.lemmas.Fmt.{decimal_is_IsNumeral, length-decimal-le, decimal_nonempty}
-use Rattle.std.proofs.lemmas.List.{drop_at, take_at, take_all, reverse-append, reverse-reverse}
+use Rattle.std.proofs.lemmas.Fmt.{decimal_is_IsNumeral, length-decimal-le}
+use Rattle.std.proofs.lemmas.List.{drop-drop, drop_at, take_at, take_all, reverse-append, reverse-reverse}
 use Rattle.lsp_frames.specs.Marks.{blank_line, line_end, first_place, begins, NoneBefore, lines, is_blank, after_blanks, before_blanks, trimmed}
 use Rattle.lsp_frames.specs.Fields.{number_after, number_in, is_numeral, length_in, length_after, told_by, with_told, and_then, most_content}
-use Rattle.lsp_frames.specs.Frames.{Open, Bad, Told, head_of, head_at, head_told, most_header, Front, More, Faulty, Whole, front, front_by, frame}
+use Rattle.lsp_frames.specs.Frames.{Told, head_of, head_at, head_told, most_header, More, Whole, front, front_by, frame}
 use Rattle.lsp_frames.specs.declared.field.FrameFault.TheVariants.{ContentTooLong, NotANumber}
 use Rattle.std.specs.Str.{bytes_eq}
 use Rattle.lsp_frames.proofs.Places.{found_first, found_none, only_line}
-use Rattle.lsp_frames.proofs.Marks.{take_of_both}
+use Rattle.lsp_frames.proofs.Marks.{none_in_front, take_of_both}
 use Rattle.lsp_frames.proofs.Streams.{is_le}
 
 -- each byte passes a test that a return or a blank fails
@@ -114,33 +114,34 @@ header_read ds h some few =
     ap (length_after None) (one_line (name ++ ds) (no_return_both name ds name_has_no_return (digits_have_no_return ds h)))
     ∙ ap (λ t. and_then (with_told None t) (λ now. length_after now [])) told
 
--- the front: a header part without a return, a blank line, and the content
-front_read : (header content rest : List ℕ) (n : ℕ) → NoReturn header → length header + 4 ≤ most_header → length_in header ≡ Ok n → length content ≡ n →
-    front ((header ++ blank_line) ++ (content ++ rest)) ≡ Whole content rest
-front_read header content rest n plain short told size =
-    let bytes = (header ++ blank_line) ++ (content ++ rest) in
+-- the front: a header part, its first blank line, and the content
+pub front_read : (header content rest : List ℕ) (n : ℕ) → NoneBefore blank_line (length header) (header ++ (blank_line ++ (content ++ rest))) → length header + 4 ≤ most_header →
+    length_in header ≡ Ok n → length content ≡ n → front (header ++ (blank_line ++ (content ++ rest))) ≡ Whole content rest
+front_read header content rest n first short told size =
+    let bytes = header ++ (blank_line ++ (content ++ rest)) in
     let place = length header in
     let more = take (most_header - length (header ++ blank_line)) (content ++ rest) in
     let four : length (header ++ blank_line) ≡ place + 4 = length-append header blank_line in
+    let grouped : bytes ≡ (header ++ blank_line) ++ (content ++ rest) = sym (append_assoc header blank_line (content ++ rest)) in
     let window : take most_header bytes ≡ header ++ (blank_line ++ more) =
-        take_of_both most_header (header ++ blank_line) (content ++ rest)
+        ap (take most_header) grouped
+        ∙ take_of_both most_header (header ++ blank_line) (content ++ rest)
         ∙ ap (λ (l : List ℕ). l ++ more) (take_all most_header (header ++ blank_line) (omega (arith, four, short)))
         ∙ append_assoc header blank_line more in
-    let here : begins blank_line (drop place (header ++ (blank_line ++ more))) ≡ true = ap (begins blank_line) (drop_at header (blank_line ++ more) place refl) in
+    let here : begins blank_line (drop place (take most_header bytes)) ≡ true =
+        ap (λ (l : List ℕ). begins blank_line (drop place l)) window ∙ ap (begins blank_line) (drop_at header (blank_line ++ more) place refl) in
     let sum = length-append header (blank_line ++ more) in
+    let long = ap length window in
     let found : first_place blank_line (take most_header bytes) ≡ Some place =
-        ap (first_place blank_line) window
-        ∙ found_first blank_line (header ++ (blank_line ++ more)) place (unmarked (10 ∷ 13 ∷ 10 ∷ []) header (blank_line ++ more) plain) here (omega (arith, sum)) in
-    let cut : take place bytes ≡ header = ap (take place) (append_assoc header blank_line (content ++ rest)) ∙ take_at header (blank_line ++ (content ++ rest)) place refl in
+        found_first blank_line (take most_header bytes) place (none_in_front blank_line bytes most_header place (omega arith) first) here (omega (arith, sum, long)) in
+    let cut : take place bytes ≡ header = take_at header (blank_line ++ (content ++ rest)) place refl in
     let head : head_of bytes ≡ Told (place + 4) n = ap (head_at bytes) found ∙ ap (λ (l : List ℕ). head_told (place + 4) (length_in l)) cut ∙ ap (head_told (place + 4)) told in
-    let whole = length-append (header ++ blank_line) (content ++ rest) in
+    let whole = length-append header (blank_line ++ (content ++ rest)) in
     let tail = length-append content rest in
-    let fits : nat_le (place + 4 + n) (length bytes) ≡ true = is_le (place + 4 + n) (length bytes) (omega (arith, whole, tail, four, size)) in
-    let behind : drop (place + 4) bytes ≡ content ++ rest = drop_at (header ++ blank_line) (content ++ rest) (place + 4) four in
+    let fits : nat_le (place + 4 + n) (length bytes) ≡ true = is_le (place + 4 + n) (length bytes) (omega (arith, whole, tail, size)) in
+    let behind : drop (place + 4) bytes ≡ content ++ rest = ap (drop (place + 4)) grouped ∙ drop_at (header ++ blank_line) (content ++ rest) (place + 4) four in
     let inside : take n (drop (place + 4) bytes) ≡ content = ap (take n) behind ∙ take_at content rest n size in
-    let most = length-append (header ++ blank_line) content in
-    let last : drop (place + 4 + n) bytes ≡ rest =
-        ap (drop (place + 4 + n)) (sym (append_assoc (header ++ blank_line) content rest)) ∙ drop_at ((header ++ blank_line) ++ content) rest (place + 4 + n) (omega (arith, most, four, size)) in
+    let last : drop (place + 4 + n) bytes ≡ rest = sym (drop-drop n (place + 4) bytes) ∙ ap (drop n) behind ∙ drop_at content rest n size in
     ap (front_by bytes) head ∙ (λ i. cond (fits i) (Whole (inside i) (last i)) More)
 
 pub written_is_read : (content rest : List ℕ) → length content ≤ most_content → front (frame content ++ rest) ≡ Whole content rest
@@ -153,8 +154,9 @@ written_is_read content rest few =
     let short = length-decimal-le 20 n (omega arith) (omega (arith, few)) small in
     let value : number_after 0 ds ≡ n = same_number 0 ds numeral.0.1 ∙ numeral.1 in
     let sum = length-append name ds in
-    let regrouped : frame content ++ rest ≡ ((name ++ ds) ++ blank_line) ++ (content ++ rest) =
-        ap (λ (l : List ℕ). name ++ l) (append_assoc ds (blank_line ++ content) rest ∙ sym (append_assoc ds blank_line (content ++ rest))) in
+    let header = name ++ ds in
+    let plain : NoReturn header = no_return_both name ds name_has_no_return (digits_have_no_return ds numeral.0.1) in
+    let regrouped : frame content ++ rest ≡ header ++ (blank_line ++ (content ++ rest)) = ap (λ (l : List ℕ). name ++ l) (append_assoc ds (blank_line ++ content) rest) in
     ap front regrouped
-    ∙ front_read (name ++ ds) content rest n (no_return_both name ds name_has_no_return (digits_have_no_return ds numeral.0.1)) (omega (arith, sum, short))
+    ∙ front_read header content rest n (unmarked (10 ∷ 13 ∷ 10 ∷ []) header (blank_line ++ (content ++ rest)) plain) (omega (arith, sum, short))
     (header_read ds numeral.0.1 numeral.0.0 (omega (arith, value, few)) ∙ ap Ok value) refl

@@ -1,5 +1,5 @@
 -- Small streams, worked out by hand.
-use Rattle.std.specs.Prelude.{◌≡◌, ℕ, List, [], ◌∷◌, ◌++◌, Option, None, Some, Ok, Err, codes}
+use Rattle.std.specs.Prelude.{◌≡◌, [], ◌∷◌, None, Some, Ok, Err, codes}
 use Rattle.lsp_frames.specs.Marks.{lines}
 use Rattle.lsp_frames.specs.Fields.{length_in}
 use Rattle.lsp_frames.specs.Frames.{messages_of, frame}
@@ -25,6 +25,7 @@ pub record Examples : Type 0 where
       ≡ record { contents = codes "{}" ∷ codes "{ }" ∷ []; fault = None }
   pub part_of_one : messages_of (codes "Content-Length: 2\r\n\r\n{") ≡ record { contents = []; fault = None }
   pub none_yet : messages_of (codes "Content-Length: x\r\n") ≡ record { contents = []; fault = None }
-  pub fault_behind : messages_of (codes "Content-Length: 2\r\n\r\n{}Content-Length: x\r\n\r\n") ≡ record { contents = codes "{}" ∷ []; fault = Some NotANumber }
+  pub fault_behind : messages_of (codes "Content-Length: 2\r\n\r\n{}Content-Length: x\r\n\r\n")
+      ≡ record { contents = codes "{}" ∷ []; fault = Some NotANumber }
   pub blank_first : messages_of (codes "\r\n\r\n") ≡ record { contents = []; fault = Some MalformedHeader }
   pub written : frame (codes "{}") ≡ codes "Content-Length: 2\r\n\r\n{}"

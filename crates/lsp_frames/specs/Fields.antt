@@ -1,5 +1,6 @@
 -- What a header part tells: the length of the content.
-use Rattle.std.specs.Prelude.{ℕ, suc, ◌+◌, ◌*◌, ◌-◌, Bool, cond, ◌&&◌, not, nat_eq, nat_le, List, [], ◌∷◌, Option, None, Some, Result, Ok, Err, option_map, length, take, drop, codes}
+use Rattle.std.specs.Prelude.{ℕ, ◌+◌, ◌*◌, ◌-◌, Bool, cond, ◌&&◌, not, nat_eq, nat_le, List}
+use Rattle.std.specs.Prelude.{[], ◌∷◌, Option, None, Some, Result, Ok, Err, length, take, drop, codes}
 use Rattle.std.specs.List.{list_all}
 use Rattle.std.specs.Char.{is_ascii_digit}
 use Rattle.std.specs.Str.{bytes_eq, str_to_ascii_lowercase}
@@ -22,7 +23,10 @@ number_after n (digit ∷ digits) = number_after (n * 10 + (digit - 48)) digits
 
 -- the length that a text tells
 abbrev pub number_in : List ℕ → Result (Option ℕ) FrameFault
-number_in text = cond (is_numeral text) (cond (nat_le (number_after 0 text) most_content) (Ok (Some (number_after 0 text))) (Err ContentTooLong)) (Err NotANumber)
+number_in text =
+    cond (is_numeral text)
+    (cond (nat_le (number_after 0 text) most_content) (Ok (Some (number_after 0 text))) (Err ContentTooLong))
+    (Err NotANumber)
 
 -- The name of a field is what stands before the colon. Capitals and small letters are one.
 abbrev pub is_length : List ℕ → Bool

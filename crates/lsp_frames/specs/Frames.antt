@@ -1,5 +1,6 @@
 -- The messages of a stream of bytes.
-use Rattle.std.specs.Prelude.{ℕ, zero, suc, ◌+◌, ◌≡◌, cond, nat_le, List, [], ◌∷◌, ◌++◌, Option, None, Some, Result, Ok, Err, length, take, drop, codes, decimal}
+use Rattle.std.specs.Prelude.{ℕ, zero, suc, ◌+◌, ◌≡◌, cond, nat_le, List, [], ◌∷◌, ◌++◌}
+use Rattle.std.specs.Prelude.{Option, None, Some, Result, Ok, Err, length, take, drop, codes, decimal}
 use Rattle.lsp_frames.specs.Marks.{blank_line, first_place, NoneBefore}
 use Rattle.lsp_frames.specs.Fields.{length_in}
 use Rattle.lsp_frames.specs.declared.field.FrameFault.{FrameFault}
@@ -36,7 +37,8 @@ pub data Front : Type 0 where
 abbrev pub front_by : List ℕ → Head → Front
 front_by bytes Open = More
 front_by bytes (Bad fault) = Faulty fault
-front_by bytes (Told start size) = cond (nat_le (start + size) (length bytes)) (Whole (take size (drop start bytes)) (drop (start + size) bytes)) More
+front_by bytes (Told start size) =
+    cond (nat_le (start + size) (length bytes)) (Whole (take size (drop start bytes)) (drop (start + size) bytes)) More
 
 abbrev pub front : List ℕ → Front
 front bytes = front_by bytes (head_of bytes)
@@ -70,6 +72,14 @@ messages_of bytes = messages_from (front bytes) (length bytes)
 abbrev pub Leaves : List ℕ → List (List ℕ) → List ℕ → Type 0
 Leaves bytes [] rest = bytes ≡ rest
 Leaves bytes (content ∷ contents) rest = (next : List ℕ) × (front bytes ≡ Whole content next) × Leaves next contents rest
+
+-- A message and what follows it: a header part, the first blank line, and the content, as long as the header part tells.
+pub record IsFrame (bytes content rest : List ℕ) : Type 0 where
+  pub header : List ℕ
+  pub whole : bytes ≡ header ++ (blank_line ++ (content ++ rest))
+  pub first : NoneBefore blank_line (length header) bytes
+  pub short : length header + 4 ≤ most_header
+  pub told : length_in header ≡ Ok (length content)
 
 -- a message as it is written
 abbrev pub frame : List ℕ → List ℕ

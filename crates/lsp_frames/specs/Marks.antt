@@ -1,5 +1,6 @@
 -- Marks in bytes, and what they part.
-use Rattle.std.specs.Prelude.{ℕ, suc, ◌≡◌, ◌<◌, Bool, false, cond, ◌&&◌, List, [], ◌∷◌, Option, None, Some, option_map, length, take, drop, reverse, nat_eq, ◌||◌}
+use Rattle.std.specs.Prelude.{ℕ, suc, ◌≡◌, ◌<◌, Bool, false, cond, List, [], ◌∷◌}
+use Rattle.std.specs.Prelude.{Option, None, Some, option_map, length, take, drop, reverse, nat_eq, ◌||◌}
 use Rattle.std.specs.Str.{bytes_eq}
 
 -- the end of a line of a header, and the end of its last line with the blank line behind it

@@ -1,5 +1,5 @@
 -- Streams that are read.
-use Rattle.std.specs.Prelude.{◌≡◌, ℕ, List, ◌++◌, map, Option, None, Some}
+use Rattle.std.specs.Prelude.{ℕ, List, map, Option, None, Some}
 use Rattle.lsp_frames.specs.Frames.{Front, More, Faulty, Stream, Leaves}
 use Rattle.lsp_frames.specs.declared.field.FrameFault.{FrameFault}
 use Rattle.lsp_frames.specs.declared.messages.Messages.{Messages}

@@ -2,7 +2,6 @@
 ghost use Rattle.std.specs.Prelude.{◌≡◌, ◌≤◌, ◌+◌, length, IfSome};
 ghost use Rattle.lsp_frames.specs.Marks.{first_place, NoneBefore};
 
-
 /// The first place at which the mark stands, which is none before the one that is given.
 pub fn find_from(bytes: &[u8], mark: &[u8], from: usize) -> Option<usize>
     requires { NoneBefore mark.now from bytes.now }

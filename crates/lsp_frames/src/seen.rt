@@ -97,7 +97,12 @@ pub fn read_front(alloc: Global, bytes: &[u8], seen: Seen) -> Result<(Reading, u
 }
 
 // The same, where the header part tells where the content is.
-fn read_content(alloc: Global, bytes: &[u8], start: usize, size: usize) -> Result<(Reading, usize), AllocError>
+fn read_content(
+    alloc: Global,
+    bytes: &[u8],
+    start: usize,
+    size: usize,
+) -> Result<(Reading, usize), AllocError>
     ensures front { IfOk result (λ r. front_by bytes.now (Told start size) ≡ front_told r.0 (drop r.1 bytes.now)) }
     ensures rest { IfOk result (λ r. rest_of bytes.now (front_by bytes.now (Told start size)) ≡ drop r.1 bytes.now) }
     ensures within { IfOk result (λ r. r.1 ≤ length bytes.now) }

@@ -1,5 +1,5 @@
 -- From a place to its position and back.
-use Rattle.std.proofs.Common.{◌≡◌, refl, ap, sym, ◌∙◌, subst, ℕ, zero, suc, ◌+◌, ◌-◌, ◌<◌, ◌≤◌, ◌⊎◌, inl, inr, min, Bool, true, false, cond, ◌&&◌, ◌||◌, not, List, [], ◌∷◌, length, take, drop, get_or, nat_eq, nat_lt, nat_le, arith, length-drop}
+use Rattle.std.proofs.Common.{◌≡◌, refl, ap, sym, ◌∙◌, ℕ, zero, suc, ◌+◌, ◌-◌, ◌<◌, ◌≤◌, ◌⊎◌, inl, inr, min, Bool, true, false, cond, ◌&&◌, ◌||◌, not, List, length, take, drop, get_or, nat_lt, arith, length-drop}
 use Rattle.std.proofs.Math.Nat.{min-eq_left}
 use Rattle.std.proofs.lemmas.List.{get_or-drop, drop-take, take_all}
 use Rattle.std.proofs.lemmas.Bool.{cases_lt}
@@ -8,7 +8,7 @@ use Rattle.lsp_positions.specs.Lines.{is_newline, is_return, is_ending, ends_lin
 use Rattle.lsp_positions.specs.Columns.{begins_character, units, is_boundary, at_column}
 use Rattle.lsp_positions.specs.Positions.{position_at, position_of, offset_of, line_text, IsWithinEnding}
 use Rattle.lsp_positions.specs.declared.position.Encoding.{Encoding}
-use Rattle.lsp_positions.proofs.Starts.{is_le, is_more, IsLine, line_is, starts_no_less, start_behind, start_of_line}
+use Rattle.lsp_positions.proofs.Starts.{is_le, IsLine, line_is, starts_no_less, start_behind, start_of_line}
 use Rattle.lsp_positions.proofs.Units.{boundary_here, column_back, column_past, line_short, line_reads, unended, ended, units_grow}
 
 is_less : (m n : ℕ) → m < n → nat_lt m n ≡ true
@@ -106,7 +106,7 @@ boundary_in text place start h within boundary = go (cases_lt (place - start) (l
         let rest = length-drop start text in
         let sum : start + (place - start) ≡ place = omega (arith, h) in
         let same : get_or (before_ending (drop start text)) (place - start) 0 ≡ get_or text place 0 =
-            line_reads (drop start text) (place - start) less ∙ reads_from text start (place - start) ∙ ap (λ n. get_or text n 0) sum in
+        line_reads (drop start text) (place - start) less ∙ reads_from text start (place - start) ∙ ap (λ n. get_or text n 0) sum in
         boundary_here (before_ending (drop start text)) (place - start) less
         ∙ ap begins_character same
         ∙ sym (boundary_here text place (omega (arith, less, short, rest, h)))
@@ -139,10 +139,10 @@ back encoding text place line h within boundary outside =
     let rest = length-drop start text in
     let front = unended (drop start text) k (omega (arith, rest, within)) (free_before text place line h within outside) in
     let column : units encoding (drop start (take place text)) ≡ units encoding (take k (before_ending (drop start text))) =
-        ap (units encoding) (part_is text start place h.start ∙ sym front.same) in
+    ap (units encoding) (part_is text start place h.start ∙ sym front.same) in
     offset_in encoding text place line (units encoding (drop start (take place text))) k h
     (ap (at_column encoding (before_ending (drop start text))) column
-        ∙ column_back encoding (before_ending (drop start text)) k front.within (boundary_in text place start h.start within boundary))
+    ∙ column_back encoding (before_ending (drop start text)) k front.within (boundary_in text place start h.start within boundary))
     ∙ sum
 
 -- at a place within the text its position is the definition's
@@ -171,7 +171,7 @@ start_apart text place (suc line) h ending = go (cases_lt (get_or (line_starts t
         let rest : get_or (line_starts text) (suc line) 0 - 0 ≡ place = omega (arith, same) in
         let next : get_or (drop place text) 0 0 ≡ 10 = get_or-drop place text 0 0 ∙ ap (λ k. get_or text k 0) (zero_right place) ∙ ending.2 in
         let wrong : false ≡ true = (λ i. is_newline (sym ending.1 i) || (is_return (sym ending.1 i) && not (is_newline (sym next i))))
-            ∙ (λ i. ends_line (get_or text (sym first i) 0) (drop (sym rest i) text)) ∙ s.ends in
+        ∙ (λ i. ends_line (get_or text (sym first i) 0) (drop (sym rest i) text)) ∙ s.ends in
         absurd (cc wrong)
 
 no_ending_before : (text : List ℕ) (place : ℕ) → IsWithinEnding text place → ¬ (IsWithinEnding text (place - 1))
@@ -193,7 +193,7 @@ from_ending encoding text place line h within ending =
     let more : place - start ≡ suc k = omega (arith, apart) in
     let column : units encoding (drop start (take place text)) ≡ units encoding (take (suc k) (drop start text)) = ap (units encoding) (part_is text start place h.start ∙ ap (λ n. take n (drop start text)) more) in
     let line_is : units encoding (take k (drop start text)) ≡ units encoding (before_ending (drop start text)) =
-        ap (units encoding) (sym front.same ∙ take_all k (before_ending (drop start text)) (omega (arith, long))) in
+    ap (units encoding) (sym front.same ∙ take_all k (before_ending (drop start text)) (omega (arith, long))) in
     let grow = units_grow encoding (drop start text) k (suc k) (omega arith) in
     offset_in encoding text place line (units encoding (drop start (take place text))) k h
     (column_past encoding (before_ending (drop start text)) (units encoding (drop start (take place text))) (omega (arith, grow, column, line_is)) ∙ long)

@@ -1,12 +1,12 @@
 -- Where lines start.
-use Rattle.std.proofs.Common.{◌≡◌, refl, ap, sym, ◌∙◌, subst, ℕ, zero, suc, ◌+◌, ◌-◌, ◌<◌, ◌≤◌, ◌⊎◌, inl, inr, Bool, true, false, cond, ◌&&◌, ◌||◌, not, List, [], ◌∷◌, length, take, drop, get_or, nat_eq, nat_le, Result, Ok, Err, arith}
+use Rattle.std.proofs.Common.{◌≡◌, refl, sym, ◌∙◌, subst, ℕ, zero, suc, ◌+◌, ◌-◌, ◌<◌, ◌≤◌, ◌⊎◌, inl, inr, Bool, true, false, cond, ◌&&◌, ◌||◌, not, List, [], ◌∷◌, length, drop, get_or, nat_eq, nat_le, Result, Ok, Err, arith}
 use Rattle.std.specs.Ordering.{nat_cmp}
 use Rattle.std.specs.List.Sorted.{IsBinarySearchResult}
 use Rattle.std.specs.Result.{MatchResult}
 use Rattle.std.proofs.lemmas.List.Sorted.{searched}
 use Rattle.std.proofs.lemmas.Bool.{cases_lt}
 use Rattle.std.proofs.lemmas.Bool.Decides.{nat_tests}
-use Rattle.lsp_positions.specs.Lines.{is_newline, is_return, ends_line, starts_behind, line_starts, how_many, line_at}
+use Rattle.lsp_positions.specs.Lines.{is_newline, ends_line, starts_behind, line_starts, how_many, line_at}
 
 pub is_le : (m n : ℕ) → m ≤ n → nat_le m n ≡ true
 is_le m n h = grind (arith, nat_tests)
@@ -173,8 +173,8 @@ count_is low (x ∷ xs) place h = go (nat_le x place) refl (count_is x xs place 
     go false e c =
         let first : place < x = more_from x place e in
         let none : how_many (λ start. nat_le start place) xs ≡ 0 =
-            counted (λ start. nat_le start place) xs 0 (omega arith) (λ k few. absurd (omega (arith, few)))
-            (λ k few more. let later = all_above x xs h.1 k more in is_more (get_or xs k 0) place (omega (arith, later, first))) in
+        counted (λ start. nat_le start place) xs 0 (omega arith) (λ k few. absurd (omega (arith, few)))
+        (λ k few more. let later = all_above x xs h.1 k more in is_more (get_or xs k 0) place (omega (arith, later, first))) in
         record { within = omega (arith, none); below = λ k few. absurd (omega (arith, few, none)); above = over first }
       where
         over : place < x → (k : ℕ) → 0 + how_many (λ start. nat_le start place) xs ≤ k → k < length (x ∷ xs) → place < get_or (x ∷ xs) k 0

@@ -8,8 +8,7 @@ use Rattle.lsp_positions.specs.Lines.{is_ending, line_starts, line_at, before_en
 use Rattle.lsp_positions.specs.Columns.{begins_character, units, is_boundary, last_below, is_within, at_column}
 use Rattle.lsp_positions.specs.Positions.{position_at, position_of}
 use Rattle.lsp_positions.specs.declared.position.Encoding.{Encoding}
-use Rattle.lsp_positions.specs.declared.position.Position.{Position}
-use Rattle.lsp_positions.proofs.Starts.{is_le, le_from, start_of_line, start_within, ending_is_ascii}
+use Rattle.lsp_positions.proofs.Starts.{is_le, start_of_line, start_within, ending_is_ascii}
 use Rattle.lsp_positions.proofs.Units.{boundary_here, last_passes, line_short, line_reads}
 use Rattle.lsp_positions.proofs.Back.{part_is, reads_from}
 
@@ -19,7 +18,7 @@ pub position_is : (encoding : Encoding) (text starts : List ℕ) (line place off
 position_is encoding text starts line place offset column table at here before counted =
     let start : get_or starts line 0 ≡ get_or (line_starts text) (line_at text place) 0 = (λ i. get_or (table i) (here i) 0) in
     let part : units encoding (take (place - get_or starts line 0) (drop (get_or starts line 0) text)) ≡ units encoding (drop (get_or (line_starts text) (line_at text place) 0) (take place text)) =
-        ap (units encoding) (sym (part_is text (get_or starts line 0) place before) ∙ ap (λ n. drop n (take place text)) start) in
+    ap (units encoding) (sym (part_is text (get_or starts line 0) place before) ∙ ap (λ n. drop n (take place text)) start) in
     let same : record { line = line; character = column } ≡ position_at encoding text place = (λ i. record { line = here i; character = (counted ∙ part) i }) in
     same ∙ ap (position_at encoding text) at
 
@@ -95,7 +94,7 @@ boundary_of_line text start at utf8 within few boundary = go (cases_lt at (lengt
     stop (inr one) end =
         let left = length-drop start text in
         let same : get_or (drop start text) (length (before_ending (drop start text))) 0 ≡ get_or text (start + at) 0 =
-            ap (λ k. get_or (drop start text) k 0) (sym end) ∙ reads_from text start at in
+        ap (λ k. get_or (drop start text) k 0) (sym end) ∙ reads_from text start at in
         IsCharBoundary-before_ascii text (start + at) (omega (arith, one.0, end, left)) (ending_ascii (get_or text (start + at) 0) (ap is_ending (sym same) ∙ one.1))
 
     go : (at < length (before_ending (drop start text))) ⊎ (length (before_ending (drop start text)) ≤ at) → IsCharBoundary text (start + at)
@@ -123,7 +122,7 @@ place_boundary encoding text start column at utf8 within first found =
     go last same (inr passes) few =
         boundary_of_line text start at utf8 within few
         (and_left (is_boundary (before_ending (drop start text)) at) (nat_le (units encoding (take at (before_ending (drop start text)))) column)
-            (ap (is_within encoding (before_ending (drop start text)) column) same ∙ passes))
+        (ap (is_within encoding (before_ending (drop start text)) column) same ∙ passes))
 
 pub offset_boundary : (encoding : Encoding) (text starts : List ℕ) (line column at : ℕ) → IsUtf8 text → starts ≡ line_starts text → line < length starts →
     at ≡ at_column encoding (before_ending (drop (get_or starts line 0) text)) column → IsCharBoundary text (get_or starts line 0 + at)

@@ -1,13 +1,12 @@
 -- Units, and places in lines.
-use Rattle.std.proofs.Common.{◌≡◌, refl, ap, sym, ◌∙◌, subst, ℕ, zero, suc, ◌+◌, ◌-◌, ◌<◌, ◌≤◌, ◌⊎◌, inl, inr, Bool, true, false, cond, ◌&&◌, ◌||◌, not, List, [], ◌∷◌, ◌++◌, length, take, drop, get_or, nat_le, arith}
+use Rattle.std.proofs.Common.{◌≡◌, refl, ap, sym, ◌∙◌, subst, ℕ, zero, suc, ◌+◌, ◌-◌, ◌<◌, ◌≤◌, ◌⊎◌, inl, inr, Bool, true, false, cond, ◌&&◌, ◌||◌, List, [], ◌∷◌, ◌++◌, length, take, get_or, nat_le, arith}
 use Rattle.std.proofs.lemmas.List.{take_all, take_more}
 use Rattle.std.proofs.lemmas.Bool.{cases_lt}
-use Rattle.std.proofs.lemmas.Bool.Decides.{nat_tests}
 use Rattle.lsp_positions.specs.Lines.{is_ending, before_ending}
 use Rattle.lsp_positions.specs.Columns.{begins_character, units_of, units, is_boundary, last_below, is_within, at_column}
 use Rattle.lsp_positions.specs.declared.position.Encoding.{Encoding}
 use Rattle.lsp_positions.specs.declared.position.Encoding.TheVariants.{Utf16, Utf8}
-use Rattle.lsp_positions.proofs.Starts.{is_le, is_more, le_from, more_from}
+use Rattle.lsp_positions.proofs.Starts.{is_le, is_more}
 
 units_both : (encoding : Encoding) (xs ys : List ℕ) → units encoding (xs ++ ys) ≡ units encoding xs + units encoding ys
 units_both encoding [] ys = let sum : 0 + units encoding ys ≡ units encoding ys = omega arith in sym sum

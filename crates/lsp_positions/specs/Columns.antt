@@ -7,7 +7,8 @@ use Rattle.lsp_positions.specs.declared.position.Encoding.TheVariants.{Utf16, Ut
 abbrev pub begins_character : ℕ → Bool
 begins_character byte = not (nat_le 0x80 byte && nat_le byte 0xBF)
 
--- The code units of a character, counted at its first byte: in UTF-16 two beyond U+FFFF, where it takes four bytes, and one before. In UTF-8 each byte is one.
+-- The code units of a character, counted at its first byte: in UTF-16 two beyond U+FFFF, where it takes four bytes,
+-- and one before. In UTF-8 each byte is one.
 abbrev pub units_of : Encoding → ℕ → ℕ
 units_of Utf16 byte = cond (begins_character byte) (cond (nat_le 0xF0 byte) 2 1) 0
 units_of Utf8 byte = 1
@@ -29,6 +30,7 @@ last_below test (suc n) = cond (test n) n (last_below test n)
 abbrev pub is_within : Encoding → List ℕ → ℕ → ℕ → Bool
 is_within encoding line column place = is_boundary line place && nat_le (units encoding (take place line)) column
 
--- The place of a column in a line: the last such place. So a column within a character is the beginning of the character, and one beyond the line is its end.
+-- The place of a column in a line: the last such place. So a column within a character is the beginning of the character,
+-- and one beyond the line is its end.
 abbrev pub at_column : Encoding → List ℕ → ℕ → ℕ
 at_column encoding line column = last_below (is_within encoding line column) (length line + 1)

@@ -4,7 +4,8 @@ use Rattle.lsp_positions.specs.Lines.{line_starts}
 use Rattle.lsp_positions.specs.Positions.{position_of, offset_of}
 use Rattle.lsp_positions.specs.declared.position.Encoding.TheVariants.{Utf16, Utf8}
 
--- 'a', a return and a newline; an 'e' with an acute accent (2 bytes), a face (4 bytes, 2 units of UTF-16) and 'b', a return; 'c', a newline; and nothing
+-- 'a', a return and a newline; an 'e' with an acute accent (2 bytes), a face (4 bytes, 2 units of UTF-16) and
+-- 'b', a return; 'c', a newline; and nothing
 abbrev text : List ℕ
 text = 0x61 ∷ 13 ∷ 10 ∷ 0xC3 ∷ 0xA9 ∷ 0xF0 ∷ 0x9F ∷ 0x98 ∷ 0x80 ∷ 0x62 ∷ 13 ∷ 0x63 ∷ 10 ∷ []
 

@@ -14,7 +14,8 @@ ends_line byte behind = is_newline byte || (is_return byte && not (is_newline (s
 -- where lines start in the bytes of a text from a place on, but for the line in which the place stands
 abbrev pub starts_behind : ℕ → List ℕ → List ℕ
 starts_behind place [] = []
-starts_behind place (byte ∷ bytes) = cond (ends_line byte bytes) ((place + 1) ∷ starts_behind (place + 1) bytes) (starts_behind (place + 1) bytes)
+starts_behind place (byte ∷ bytes) =
+    cond (ends_line byte bytes) ((place + 1) ∷ starts_behind (place + 1) bytes) (starts_behind (place + 1) bytes)
 
 -- where each line starts
 abbrev pub line_starts : List ℕ → List ℕ

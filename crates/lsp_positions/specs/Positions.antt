@@ -7,7 +7,8 @@ use Rattle.lsp_positions.specs.declared.position.Position.{Position}
 
 -- the position of a place in the text: its line, and the units that stand in the line before it
 abbrev pub position_at : Encoding → List ℕ → ℕ → Position
-position_at encoding text place = record { line = line_at text place; character = units encoding (drop (line_start text (line_at text place)) (take place text)) }
+position_at encoding text place =
+    record { line = line_at text place; character = units encoding (drop (line_start text (line_at text place)) (take place text)) }
 
 -- An offset beyond the text is as one at its end.
 abbrev pub position_of : Encoding → List ℕ → ℕ → Position

@@ -4,7 +4,8 @@ use Rattle.serde_json.specs.Data.{Data, null, number, string, object, member, no
 use Rattle.serde_json.specs.Find.{of_integer}
 use Rattle.lsp_requests.specs.Kinds.{Id, Number, Text}
 use Rattle.lsp_requests.specs.declared.code.ErrorCode.{ErrorCode}
-use Rattle.lsp_requests.specs.declared.code.ErrorCode.TheVariants.{ParseError, InvalidRequest, MethodNotFound, InvalidParams, InternalError, NotInitialized, Cancelled, ContentModified}
+use Rattle.lsp_requests.specs.declared.code.ErrorCode.TheVariants.{ParseError, InvalidRequest, MethodNotFound, InvalidParams, InternalError}
+use Rattle.lsp_requests.specs.declared.code.ErrorCode.TheVariants.{NotInitialized, Cancelled, ContentModified}
 
 -- the numbers of JSON-RPC and of the Language Server Protocol
 abbrev pub code_of : ErrorCode → ℤ
@@ -32,9 +33,13 @@ version = string (codes "2.0")
 abbrev pub result_json : Id → Data → Data
 result_json id d = object (member (codes "id") (id_json id) (member (codes "jsonrpc") version (member (codes "result") d no_members)))
 
+abbrev pub fault_json : ErrorCode → List ℕ → Data
+fault_json code text =
+    object (member (codes "code") (number (of_integer (code_of code))) (member (codes "message") (string text) no_members))
+
 abbrev pub error_json : Option Id → ErrorCode → List ℕ → Data
 error_json id code text =
-    object (member (codes "error") (object (member (codes "code") (number (of_integer (code_of code))) (member (codes "message") (string text) no_members)))
+    object (member (codes "error") (fault_json code text)
     (member (codes "id") (any_id_json id) (member (codes "jsonrpc") version no_members)))
 
 abbrev pub notification_json : List ℕ → Data → Data

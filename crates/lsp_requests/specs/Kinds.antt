@@ -1,5 +1,5 @@
 -- What a message of JSON-RPC 2.0 is, by its members.
-use Rattle.std.specs.Prelude.{ℕ, ℤ, List, Bool, false, cond, codes, Option, None, Some, option_map, option_and_then}
+use Rattle.std.specs.Prelude.{ℕ, ℤ, List, Bool, false, cond, codes, Option, None, Some, option_and_then}
 use Rattle.std.specs.Str.{bytes_eq}
 use Rattle.serde_json.specs.Data.{Data}
 use Rattle.serde_json.specs.Find.{get, as_str, as_number, as_i64}

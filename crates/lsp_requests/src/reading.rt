@@ -1,9 +1,10 @@
 // Messages that are read.
-ghost use Rattle.std.specs.Prelude.{◌≡◌, ◌⊎◌, None, Some, Option, IfOk, IsTrue, ◌↔◌, option_map};
-ghost use Rattle.serde_json.specs.Data.{Data};
+ghost use Rattle.std.specs.Prelude.{◌≡◌, codes, string_bytes, None, IfOk, option_map, option_and_then};
+ghost use Rattle.serde_json.specs.Data.{null};
+ghost use Rattle.serde_json.specs.Find.{as_str, as_number, as_i64};
 ghost use Rattle.serde_json.specs.View.{view};
 ghost use Rattle.serde_json.specs.Errors.{IsMemory};
-ghost use Rattle.lsp_requests.specs.Kinds.{id_of, named_by, kind_by, is_version, kind_of};
+ghost use Rattle.lsp_requests.specs.Kinds.{Malformed, id_by, id_of, request_by, named_by, kind_by, is_text, is_version, kind_of};
 ghost use Rattle.lsp_requests.specs.Read.{id_view, kind_view, IsMessage};
 
 use crate::code::ErrorCode;
@@ -26,7 +27,8 @@ pub fn read_message(alloc: Global, content: &[u8]) -> Result<Message, AllocError
 
 // The message, where the content is no JSON.
 fn unread(error: &Error) -> Result<Message, AllocError>
-    ensures { IfOk result (λ message. (IsMemory error.now → ⊥) × (kind_view message.kind ≡ Malformed ErrorCode.ParseError) × (view message.value ≡ null)) }
+    ensures { IfOk result (λ message. (IsMemory error.now → ⊥)
+        × (kind_view message.kind ≡ Malformed ErrorCode.ParseError) × (view message.value ≡ null)) }
 {
     match error.classify() {
         Category::Memory => Err(AllocError),
@@ -44,10 +46,9 @@ fn kind_of(alloc: Global, value: &Value) -> Result<Kind, AllocError>
     if !is_version(value) {
         return Ok(Kind::Malformed(ErrorCode::InvalidRequest));
     }
-    match (value.get("method"), value.get("id")) {
-        (Some(method), id) => named(alloc, method, id),
-        (None, Some(id)) => Ok(Kind::Response(id_of(alloc, id)?)),
-        (None, None) => Ok(Kind::Malformed(ErrorCode::InvalidRequest)),
+    match value.get("method") {
+        Some(method) => named(alloc, method, value.get("id")),
+        None => unnamed(alloc, value.get("id")),
     }
 }
 
@@ -68,6 +69,16 @@ fn is_two(version: &Value) -> bool
     match version.as_str() {
         Some(text) => text == "2.0",
         None => false,
+    }
+}
+
+// What a value without a method is.
+fn unnamed(alloc: Global, id: Option<&Value>) -> Result<Kind, AllocError>
+    ensures { IfOk result (λ kind. kind_view kind ≡ kind_by None (option_map (λ id. view id.now) id)) }
+{
+    match id {
+        Some(id) => Ok(Kind::Response(id_of(alloc, id)?)),
+        None => Ok(Kind::Malformed(ErrorCode::InvalidRequest)),
     }
 }
 

@@ -9,7 +9,7 @@ returns-then-starts_with-clause-place c =
     let bytes = c.args.bytes.now in
     let mark = c.args.mark.now in
     let here : begins mark (drop c.loop-place.place bytes) ≡ true =
-        ap (begins mark) (sym (take_rest bytes c.loop-place.place)) ∙ sym c.starts_with.ensures.value ∙ c.if-starts_with.true in
+    ap (begins mark) (sym (take_rest bytes c.loop-place.place)) ∙ sym c.starts_with.ensures.value ∙ c.if-starts_with.true in
     sym (found_first mark bytes c.loop-place.place c.loop-place.invariant here (omega arith))
 
 pub returns-clause-place : goal.returns-clause-place

@@ -13,7 +13,7 @@ pub loop-piece-preserved : goal.loop-piece-preserved
 loop-piece-preserved c = record {
   leaves = c.in_ok-read_whole.ensures.leaves _
       (piece_more c.args.pieces.now c.loop-piece.piece-index c.piece-item.result c.loop-piece.reader c.push.new.self c.deref.result.now (contents_of c.loop-piece.contents.items)
-          (omega arith) c.piece-item.is c.deref.ensures.value c.in_ok-push.ensures.ok c.loop-piece.invariant.leaves);
+      (omega arith) c.piece-item.is c.deref.ensures.value c.in_ok-push.ensures.ok c.loop-piece.invariant.leaves);
   ends = c.in_ok-read_whole.ensures.ends;
 }
 

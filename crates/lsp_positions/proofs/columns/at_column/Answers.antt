@@ -1,4 +1,4 @@
-use Rattle.std.proofs.Common.{sym, ap, ◌∙◌, ◌+◌, arith}
+use Rattle.std.proofs.Common.{sym, ◌∙◌, ◌+◌, arith}
 use Rattle.lsp_positions.proofs.Units.{units_more, last_more}
 use Rattle.lsp_positions.proofs.columns.at_column.Goals as goal
 

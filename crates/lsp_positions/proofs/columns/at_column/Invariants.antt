@@ -1,4 +1,4 @@
-use Rattle.std.proofs.Common.{◌≡◌, ◌+◌, ◌*◌, ◌≤◌, take}
+use Rattle.std.proofs.Common.{◌≡◌, ◌*◌, ◌≤◌, take}
 use Rattle.lsp_positions.specs.Columns.{units, last_below, is_within}
 use Rattle.lsp_positions.proofs.columns.at_column.Given as goal
 

@@ -10,12 +10,12 @@ overflow_sub-result c =
 pub returns-in-Ok-clause-line : goal.returns-in-Ok-clause-line
 returns-in-Ok-clause-line c =
     sym (line_from c.args.text.now c.args.place c.in-Ok.line
-        (line_by_search c.args.text.now c.args.starts.now c.args.place (Ok c.in-Ok.line) c.requires c.in-Ok.ensures.position))
+    (line_by_search c.args.text.now c.args.starts.now c.args.place (Ok c.in-Ok.line) c.requires c.in-Ok.ensures.position))
 
 pub returns-in-Err-clause-line : goal.returns-in-Err-clause-line
 returns-in-Err-clause-line c =
     sym (line_from c.args.text.now c.args.place (c.in-Err.next - 1)
-        (line_by_search c.args.text.now c.args.starts.now c.args.place (Err c.in-Err.next) c.requires c.in-Err.ensures.position).1)
+    (line_by_search c.args.text.now c.args.starts.now c.args.place (Err c.in-Err.next) c.requires c.in-Err.ensures.position).1)
 
 pub returns-in-Err-clause-start : goal.returns-in-Err-clause-start
 returns-in-Err-clause-start c =
