@@ -25,4 +25,4 @@ changed encoding text change = changed_in encoding text change.range (string_byt
 -- the text once changes are made in their order, each of the text that the one before leaves
 abbrev pub all_changed : Encoding → List ℕ → List Change → Option (List ℕ)
 all_changed encoding text [] = Some text
-all_changed encoding text (change ∷ changes) = option_and_then (changed encoding text change) (λ next. all_changed encoding next changes)
+all_changed encoding text (change ∷ changes) = option_and_then (λ next. all_changed encoding next changes) (changed encoding text change)
