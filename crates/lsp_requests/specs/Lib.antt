@@ -1,4 +1,0 @@
-pub mod Kinds
-pub mod Read
-pub mod Answers
-pub mod Example
