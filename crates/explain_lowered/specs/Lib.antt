@@ -1,0 +1,4 @@
+pub mod Values
+pub mod Lowered
+pub mod Read
+pub mod Example
