@@ -1,4 +1,5 @@
 pub mod Values
 pub mod Lowered
+pub mod Ceilings
 pub mod Read
 pub mod Example

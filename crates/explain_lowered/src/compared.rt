@@ -11,7 +11,7 @@ use explain_degrees::{Finding, Findings};
 use explain_sizes::{Size, value_at};
 
 /// The whole part of the bound that is found of a meter, at sizes; none above 2^127.
-fn value_of(findings: &Findings, meter: Meter, sizes: &[Size]) -> Option<u128>
+pub(crate) fn value_of(findings: &Findings, meter: Meter, sizes: &[Size]) -> Option<u128>
     requires { HasValues findings.now }
     ensures is { result ≡ v.value_at (all_sizes sizes.now) (finding_of findings.now meter) }
     ensures most { IfSome result (λ n. n ≤ 2 ^ 127) }
