@@ -47,9 +47,9 @@ _raml() {
 _explain() {
   local word=${COMP_WORDS[COMP_CWORD]} before=${COMP_WORDS[COMP_CWORD - 1]} words=''
   if [ "$COMP_CWORD" -eq 1 ]; then
-    words='check bounds budget verify why plot profile help --help --version'
+    words='check bounds budget verify why plot profile lsp help --help --version'
   elif [ "${COMP_WORDS[1]}" = help ]; then
-    words='check bounds budget verify why plot profile help'
+    words='check bounds budget verify why plot profile lsp help'
   elif [ "$before" = --degree ]; then
     words='1 2 3 4'
   elif [ "$before" = --function ] || [[ ${COMP_WORDS[1]}:$before == check:--data ]]; then
@@ -68,6 +68,7 @@ _explain() {
       why) words='--function --meter --degree --write --force --help' ;;
       plot) words='--sizes --seed --data --of --degree --meter --output --force --help' ;;
       profile) words='--function --degree --at --help' ;;
+      lsp) words='--degree --help' ;;
     esac
   elif [[ ${COMP_WORDS[1]}:$(_raml_operands) == plot:1 ]]; then
     words=$(_raml_functions)

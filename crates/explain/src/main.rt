@@ -37,6 +37,7 @@ fn run(rt: &HostRuntime) -> io::Result<Status> {
     let words: Vec<&str> = args.iter().map(|word| word.as_str()).collect(rt.alloc())?;
     let mut store = DirStore::new(rt);
     let mut shelf = DirShelf::new(rt);
+    let mut input = rt.stdin();
     let mut out = StdSink::new(rt.stdout());
     let mut err = StdSink::new(rt.stderr());
     let mut waiting = Waiting::new(
@@ -51,6 +52,7 @@ fn run(rt: &HostRuntime) -> io::Result<Status> {
         columns,
         &mut store,
         &mut shelf,
+        &mut input,
         &mut waiting,
         &mut out,
         &mut err,

@@ -1,5 +1,5 @@
 -- How calls of `explain` end, and what they write.
-use Rattle.std.specs.Prelude.{◌≡◌, ◌⊎◌, ◌++◌, ◌||◌, ℕ, Bool, false, cond, List, [], ◌∷◌, Option, Some, None, codes, string_bytes}
+use Rattle.std.specs.Prelude.{◌≡◌, ◌⊎◌, ◌++◌, ◌||◌, ℕ, zero, suc, min, Bool, false, cond, List, [], ◌∷◌, Option, Some, None, codes, string_bytes}
 use Rattle.std.specs.Borrow.{Bor}
 use Rattle.std.specs.Str.{bytes_eq}
 use Rattle.raml_syntax.specs.Tree.{Text}
@@ -26,7 +26,7 @@ use Rattle.explain_verify.specs.declared.verification.Verification.TheVariants a
 use Rattle.explain_words.specs.Asking.{Asks, AsksToShow, AsksNothing}
 use Rattle.explain_words.specs.declared.request.Request.{Request}
 use Rattle.explain_words.specs.declared.request.Request.TheVariants.{Check, CheckData, Bounds, Budget, WriteBudget, Verify}
-use Rattle.explain_words.specs.declared.request.Request.TheVariants.{Why, Plot, Profile}
+use Rattle.explain_words.specs.declared.request.Request.TheVariants.{Why, Plot, Profile, Lsp}
 use Rattle.explain_words.specs.declared.request.bounds.BoundsWords.{BoundsWords}
 use Rattle.explain_words.specs.declared.request.plot.PlotWords.{PlotWords}
 use Rattle.explain_words.specs.declared.request.why.WhyWords.{WhyWords}
@@ -36,6 +36,10 @@ use Rattle.explain_plot.specs.Files.{names_of}
 use Rattle.explain_words.specs.declared.request.profile.ProfileWords.{ProfileWords}
 use Rattle.explain_profile_call.specs.Calls as profile
 use Rattle.explain_why.specs.Calls as why
+use Rattle.explain_language.specs.Told as language
+use Rattle.lsp_session.specs.Sessions.{Streams, streams_of, IsServed}
+use Rattle.lsp_session.specs.declared.end.SessionEnd.{SessionEnd}
+use Rattle.lsp_session.specs.declared.end.SessionEnd.TheVariants as session
 use Rattle.explain_why.specs.Outcome.{Outcome}
 use Rattle.explain_top.specs.Shelves.{Shelf, KeepsFiles, LeavesFile, HasFile, FailsToLeave}
 use Rattle.explain_top.specs.Sinks.{Sink, GainsNothing, Gains, GainsFront, Writes}
@@ -76,6 +80,20 @@ status_of_verification o.Holds = s.Done
 status_of_verification o.Fails = s.Faulty
 status_of_verification o.Refused = s.Refused
 status_of_verification o.NotAnalysed = s.NotAnalysed
+
+-- the status of a program that an editor ends
+abbrev pub status_by : ℕ → Status
+status_by zero = s.Done
+status_by (suc n) = s.Faulty
+
+abbrev pub status_of_session : SessionEnd → Status
+status_of_session (session.Exited status) = status_by status
+status_of_session (session.Closed status) = status_by status
+status_of_session (session.Faulty fault) = s.Refused
+status_of_session session.ReadFault = s.Refused
+status_of_session session.WriteFault = s.WriteFault
+status_of_session session.NoMemory = s.NoMemory
+status_of_session session.TooLong = s.Refused
 
 -- a text is written to out, and the status is this one; or not as a whole, since out failed
 abbrev pub Puts : Text → Sink → Status → Status → Type 0
@@ -224,31 +242,56 @@ IsPlotTold store shelf words out err status =
     (KeepsFiles shelf × GainsNothing out × (LacksMemory err status ⊎ DrawsOverRead words err status))
     ⊎ ((over_read words ≡ None) × TellsPlot store shelf words out err status)
 
+-- ---- sessions with an editor
+
+-- what is said of a session that the editor does not end
+abbrev pub said_of : SessionEnd → Text
+said_of (session.Faulty fault) = codes "explain: what the editor sends is no message\n"
+said_of session.ReadFault = codes "explain: what the editor sends can't be read\n"
+said_of session.NoMemory = codes "explain: out of memory\n"
+said_of session.TooLong = codes "explain: the session is too long\n"
+said_of cause = []
+
+-- An editor is served: what it is told of a text is the text's fault, or the bounds of its functions at degrees up to this one.
+abbrev pub IsEditorServed : ℕ → Streams → Streams → Sink → Status → Type 0
+IsEditorServed degree start last err status =
+    (end : SessionEnd) × IsServed (language.IsTold (min degree 4)) start last end × (status ≡ status_of_session end) × Writes (said_of end) err
+
 -- ---- requests
 
+-- what an editor was still to send before the call, and after it, where that is told
+pub record Editor : Type 0 where
+  pub before : Option Text
+  pub after : Option Text
+
+abbrev pub editor_of : Option Text → Option Text → Editor
+editor_of before after = record { before = before; after = after }
+
 -- what a request asks for is done, where lines that go to out have at most so many columns; no others than these leave a file
-abbrev pub IsAnswer : Store → Shelf → Request → Option ℕ → Sink → Sink → Status → Type 0
-IsAnswer store shelf (Check names) columns out err status =
+abbrev pub IsAnswer : Store → Shelf → Editor → Request → Option ℕ → Sink → Sink → Status → Type 0
+IsAnswer store shelf editor (Check names) columns out err status =
     IsChecked store names.items err status × GainsNothing out × KeepsFiles shelf
-IsAnswer store shelf (CheckData file name input) columns out err status =
+IsAnswer store shelf editor (CheckData file name input) columns out err status =
     IsDataChecked store file.now name.now input.now err status × GainsNothing out × KeepsFiles shelf
-IsAnswer store shelf (Bounds words) columns out err status = AreBoundsTold store words columns out err status × KeepsFiles shelf
-IsAnswer store shelf (Budget file bounds degree json) columns out err status =
+IsAnswer store shelf editor (Bounds words) columns out err status = AreBoundsTold store words columns out err status × KeepsFiles shelf
+IsAnswer store shelf editor (Budget file bounds degree json) columns out err status =
     IsBudgetTold store file.now bounds.now degree json columns out err status × KeepsFiles shelf
-IsAnswer store shelf (WriteBudget file bounds degree force) columns out err status =
+IsAnswer store shelf editor (WriteBudget file bounds degree force) columns out err status =
     IsDraftLeft store shelf file.now bounds.now degree force err status × GainsNothing out
-IsAnswer store shelf (Verify file certificate) columns out err status =
+IsAnswer store shelf editor (Verify file certificate) columns out err status =
     IsVerified store file.now certificate.now out err status × KeepsFiles shelf
-IsAnswer store shelf (Why words) columns out err status = IsWhyTold store shelf words out err status
-IsAnswer store shelf (Plot words) columns out err status = IsPlotTold store shelf words out err status
-IsAnswer store shelf (Profile words) columns out err status = IsProfileTold store words out err status × KeepsFiles shelf
+IsAnswer store shelf editor (Why words) columns out err status = IsWhyTold store shelf words out err status
+IsAnswer store shelf editor (Plot words) columns out err status = IsPlotTold store shelf words out err status
+IsAnswer store shelf editor (Profile words) columns out err status = IsProfileTold store words out err status × KeepsFiles shelf
+IsAnswer store shelf editor (Lsp degree) columns out err status =
+    IsEditorServed degree (streams_of editor.before out.old) (streams_of editor.after out.new) err status × KeepsFiles shelf
 
 -- ---- whole calls
 
 -- the words ask for something, and that is done
-abbrev pub Answered : List Text → Option ℕ → Store → Shelf → Sink → Sink → Status → Type 0
-Answered words columns store shelf out err status =
-    (request : Request) × Asks words request × IsAnswer store shelf request columns out err status
+abbrev pub Answered : List Text → Option ℕ → Store → Shelf → Editor → Sink → Sink → Status → Type 0
+Answered words columns store shelf editor out err status =
+    (request : Request) × Asks words request × IsAnswer store shelf editor request columns out err status
 
 -- the words ask for help or for the version, which is written to out, or not as a whole
 abbrev pub Showed : List Text → Sink → Sink → Status → Type 0
@@ -261,7 +304,7 @@ RefusedWords words out err status =
     AsksNothing words × (status ≡ s.Refused) × GainsNothing out × ((text : Text) × Writes text err)
 
 -- why a call ends so, and what it writes
-abbrev pub Cause : List Text → Option ℕ → Store → Shelf → Sink → Sink → Status → Type 0
-Cause words columns store shelf out err status =
-    Answered words columns store shelf out err status
+abbrev pub Cause : List Text → Option ℕ → Store → Shelf → Editor → Sink → Sink → Status → Type 0
+Cause words columns store shelf editor out err status =
+    Answered words columns store shelf editor out err status
     ⊎ (KeepsFiles shelf × ((LacksMemory err status × GainsNothing out) ⊎ (Showed words out err status ⊎ RefusedWords words out err status)))

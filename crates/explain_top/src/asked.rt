@@ -4,11 +4,12 @@ ghost use Rattle.raml_syntax.specs.Tree.{Text};
 ghost use Rattle.explain_check.specs.Stores.{store_of};
 ghost use Rattle.explain_words.specs.Laws.{AreInRange, IsDegree, IsInRange};
 ghost use Rattle.explain_top.specs.Answers.{width_or, IsAnswer, AreBoundsTold, IsBudgetTold, IsVerified, IsChecked, IsDataChecked};
-ghost use Rattle.explain_top.specs.Answers.{LacksMemory, Puts};
+ghost use Rattle.explain_top.specs.Answers.{LacksMemory, Puts, editor_of};
 ghost use Rattle.explain_top.specs.Shelves.{shelf_of};
 ghost use Rattle.explain_top.specs.Sinks.{sink_of, Writes};
 
 use crate::draft::leave_draft;
+use crate::editor::serve_editor;
 use crate::plot::plot;
 use crate::profile::profile;
 use crate::status::Status;
@@ -23,26 +24,29 @@ use explain_verify::verify_certificate;
 use explain_words::{BoundsWords, Request};
 use raml_io::{Sink, Store, put_all};
 use std::alloc::{AllocError, Global};
+use std::io::Read;
 
 /// The line where no memory is left.
 const NO_MEMORY: &str = "explain: out of memory\n";
 
 /// Does what a request asks for: writes what is told to `out`, where lines have at most so many columns, what is wrong to
-/// `err`, and leaves a file on the shelf where that is asked for.
+/// `err`, and leaves a file on the shelf where that is asked for. An editor is served where that is asked for.
 #[tactic(auto, using(crate::proofs::Shelves::untouched))]
-pub fn answer<S: Store, W: Shelf, P: Progress, O: Sink, E: Sink>(
+pub fn answer<S: Store, W: Shelf, I: Read, P: Progress, O: Sink, E: Sink>(
     alloc: Global,
     request: &Request,
     columns: Option<u32>,
     store: &mut S,
     shelf: &mut W,
+    input: &mut I,
     progress: &mut P,
     out: &mut O,
     err: &mut E,
 ) -> Status
     requires { IsInRange request.now }
     ensures done { IsAnswer (store_of (S.holds store.old) (S.faults store.old) (S.faults store.new))
-        (shelf_of (W.faults shelf.old) (W.faults shelf.new) (W.holds shelf.old) (W.holds shelf.new)) request.now columns
+        (shelf_of (W.faults shelf.old) (W.faults shelf.new) (W.holds shelf.old) (W.holds shelf.new))
+        (editor_of (I.remaining input.old) (I.remaining input.new)) request.now columns
         (sink_of (O.faults out.old) (O.faults out.new) (O.written out.old) (O.written out.new))
         (sink_of (E.faults err.old) (E.faults err.new) (E.written err.old) (E.written err.new)) result }
     ensures kept { S.holds store.new ≡ S.holds store.old }
@@ -74,6 +78,7 @@ pub fn answer<S: Store, W: Shelf, P: Progress, O: Sink, E: Sink>(
         Request::Why(words) => why(alloc, words, store, shelf, progress, out, err),
         Request::Plot(words) => plot(alloc, words, store, shelf, out, err),
         Request::Profile(words) => profile(alloc, words, store, out, err),
+        Request::Lsp { degree } => serve_editor(alloc, *degree, input, out, err),
     }
 }
 

@@ -3,6 +3,7 @@
 
 mod asked;
 mod draft;
+mod editor;
 mod plot;
 mod profile;
 mod status;

@@ -1,21 +1,24 @@
 // How a call ends.
 ghost use Rattle.std.specs.Prelude.{◌≡◌};
-ghost use Rattle.explain_top.specs.Answers.{code_of, status_of, status_for, status_at, status_of_budget, status_of_verification};
+ghost use Rattle.explain_top.specs.Answers.{code_of, status_of, status_for, status_at, status_of_budget, status_of_session, status_of_verification};
 
 use explain_budget::BudgetEnd;
 use explain_calls::End;
 use explain_check::Verdict;
 use explain_data::Finding;
 use explain_verify::Verification;
+use lsp_session::SessionEnd;
 
 /// How a call ends.
 #[derive(Clone, Copy, Debug, PartialEq, Eq)]
 pub enum Status {
     /// What was asked for is done, and nothing is wrong.
     Done,
-    /// What was checked has a fault: a source spells no typed program, a declared bound is not kept, or a certificate is refused.
+    /// What was checked has a fault: a source spells no typed program, a declared bound is not kept, or a certificate is refused;
+    /// or an editor ended its session before it was shut down.
     Faulty,
-    /// The words ask for nothing that there is, a file can't be read, or one beside what is checked is faulty.
+    /// The words ask for nothing that there is, a file can't be read, or one beside what is checked is faulty; or an editor
+    /// sends what is no message.
     Refused,
     /// The analysis could not be made.
     NotAnalysed,
@@ -99,6 +102,20 @@ impl From<Verification> for Status {
             Verification::Fails => Status::Faulty,
             Verification::Refused => Status::Refused,
             Verification::NotAnalysed => Status::NotAnalysed,
+        }
+    }
+}
+
+impl From<SessionEnd> for Status {
+    ghost from_gives = { λ end status. status ≡ status_of_session end };
+
+    fn from(end: SessionEnd) -> Status {
+        match end {
+            SessionEnd::Exited(0) | SessionEnd::Closed(0) => Status::Done,
+            SessionEnd::Exited(_) | SessionEnd::Closed(_) => Status::Faulty,
+            SessionEnd::Faulty(_) | SessionEnd::ReadFault | SessionEnd::TooLong => Status::Refused,
+            SessionEnd::WriteFault => Status::WriteFault,
+            SessionEnd::NoMemory => Status::NoMemory,
         }
     }
 }

@@ -11,7 +11,7 @@ use Rattle.clap.specs.declared.error.kind.ErrorKind.{ErrorKind}
 use Rattle.clap.specs.declared.error.kind.ErrorKind.TheVariants as kind
 use Rattle.clap.specs.declared.parser.matches.ArgMatches.{ArgMatches}
 use Rattle.clap.proofs.OnLiterals.{clap_on_literals}
-use Rattle.explain_words.specs.Apps.{app}
+use Rattle.explain_commands.specs.Apps.{app}
 use Rattle.explain_words.specs.Asking.{Means, Asks, IsMistake, GivesNone, IsTold, RefusesAll}
 use Rattle.explain_words.specs.declared.request.Request.{Request}
 use Rattle.explain_words.specs.declared.request.WordsFault.{WordsFault}

@@ -7,8 +7,8 @@ use Rattle.clap.specs.Simple.{subcommand_of}
 use Rattle.clap.specs.Faults.{fault_of}
 use Rattle.clap.specs.declared.error.kind.ErrorKind.{ErrorKind}
 use Rattle.clap.specs.declared.error.kind.ErrorKind.TheVariants as kind
-use Rattle.explain_words.specs.Apps.{app}
-use Rattle.explain_words.specs.Commands.{values, MeansCheck, MeansBounds, MeansBudget, MeansVerify, MeansWhy, MeansPlot, MeansProfile}
+use Rattle.explain_commands.specs.Apps.{app}
+use Rattle.explain_words.specs.Commands.{values, MeansCheck, MeansBounds, MeansBudget, MeansVerify, MeansWhy, MeansPlot, MeansProfile, MeansLsp}
 use Rattle.explain_words.specs.declared.request.Request.{Request}
 use Rattle.explain_words.specs.declared.request.WordsFault.{WordsFault}
 use Rattle.explain_words.specs.declared.request.WordsFault.TheVariants.{Shown, Refused, NoMemory}
@@ -21,6 +21,7 @@ pub data Command : Type 0 where
   OfWhy : Command
   OfPlot : Command
   OfProfile : Command
+  OfLsp : Command
 
 abbrev pub command_named : Text → Option Command
 command_named name =
@@ -29,7 +30,8 @@ command_named name =
     (cond (bytes_eq name (codes "budget")) (Some OfBudget)
     (cond (bytes_eq name (codes "verify")) (Some OfVerify)
     (cond (bytes_eq name (codes "why")) (Some OfWhy)
-    (cond (bytes_eq name (codes "plot")) (Some OfPlot) (cond (bytes_eq name (codes "profile")) (Some OfProfile) None))))))
+    (cond (bytes_eq name (codes "plot")) (Some OfPlot)
+    (cond (bytes_eq name (codes "profile")) (Some OfProfile) (cond (bytes_eq name (codes "lsp")) (Some OfLsp) None)))))))
 
 -- what a command asks for with what is found for its arguments
 abbrev pub MeansBy : Option Command → List Row → Request → Type 0
@@ -40,6 +42,7 @@ MeansBy (Some OfVerify) rows request = MeansVerify rows request
 MeansBy (Some OfWhy) rows request = MeansWhy rows request
 MeansBy (Some OfPlot) rows request = MeansPlot rows (values (codes "data") rows) request
 MeansBy (Some OfProfile) rows request = MeansProfile rows request
+MeansBy (Some OfLsp) rows request = MeansLsp rows request
 MeansBy None rows request = ⊥
 
 -- the same of a command by its name

@@ -9,7 +9,7 @@ use Rattle.explain_words.specs.Spelled.{lent, degree_in, seed_in, width_in, mete
 use Rattle.explain_words.specs.declared.within.Meter.{Meter}
 use Rattle.explain_words.specs.declared.within.Meter.TheVariants.{Work}
 use Rattle.explain_words.specs.declared.request.Request.{Request}
-use Rattle.explain_words.specs.declared.request.Request.TheVariants.{Check, CheckData, Bounds, Budget, WriteBudget, Verify, Why, Plot, Profile}
+use Rattle.explain_words.specs.declared.request.Request.TheVariants.{Check, CheckData, Bounds, Budget, WriteBudget, Verify, Why, Plot, Profile, Lsp}
 use Rattle.explain_words.specs.declared.request.bounds.BoundsWords.{BoundsWords}
 use Rattle.explain_words.specs.declared.request.budget.Aim.{Aim as Aim'}
 use Rattle.explain_words.specs.declared.request.budget.Aim.TheVariants as aim
@@ -180,3 +180,8 @@ pub record AreProfile (rows : List Row) (asked : ProfileWords) : Type 0 where
 abbrev pub MeansProfile : List Row → Request → Type 0
 MeansProfile rows (Profile asked) = AreProfile rows asked
 MeansProfile rows other = ⊥
+
+-- what `lsp` asks for
+abbrev pub MeansLsp : List Row → Request → Type 0
+MeansLsp rows (Lsp degree) = degree_or_4 (first_of (codes "degree") rows) ≡ Some degree
+MeansLsp rows other = ⊥

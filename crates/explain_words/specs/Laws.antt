@@ -3,7 +3,7 @@ use Rattle.std.specs.Prelude.{◌≤◌, ◌^◌, ℕ, List, IfSome}
 use Rattle.clap.specs.Walk.{Text}
 use Rattle.explain_words.specs.Asking.{Asks}
 use Rattle.explain_words.specs.declared.request.Request.{Request}
-use Rattle.explain_words.specs.declared.request.Request.TheVariants.{Bounds, Budget, WriteBudget, Why, Plot, Profile}
+use Rattle.explain_words.specs.declared.request.Request.TheVariants.{Bounds, Budget, WriteBudget, Why, Plot, Profile, Lsp}
 use Rattle.explain_words.specs.declared.request.bounds.BoundsWords.{BoundsWords}
 
 abbrev pub IsDegree : ℕ → Type 0
@@ -22,6 +22,7 @@ IsInRange (WriteBudget file bounds degree force) = IfSome degree IsDegree
 IsInRange (Why words) = IsDegree words.degree
 IsInRange (Plot words) = IsDegree words.degree
 IsInRange (Profile words) = IsDegree words.degree
+IsInRange (Lsp degree) = IsDegree degree
 IsInRange other = Unit {0}
 
 -- What words ask for is in range.

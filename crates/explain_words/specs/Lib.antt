@@ -1,5 +1,4 @@
 pub mod Spelled
-pub mod Apps
 pub mod Commands
 pub mod Asking
 pub mod Example

@@ -1,7 +1,6 @@
 //! The words of a call of `explain`, and what they ask for.
 #![tactic(auto)]
 
-mod commands;
 mod given;
 pub mod laws;
 mod mistake;
@@ -9,7 +8,6 @@ mod number;
 mod request;
 mod within;
 
-pub use commands::VERSION;
 pub use request::bounds::BoundsWords;
 pub use request::plot::{Arguments, PlotWords};
 pub use request::profile::ProfileWords;

@@ -11,17 +11,18 @@ ghost use Rattle.explain_words.specs.Asking.{command_named, MeansBy, Means, Asks
 pub mod bounds;
 mod budget;
 mod check;
+mod lsp;
 pub mod plot;
 pub mod profile;
 mod verify;
 pub mod why;
 
-use crate::commands::program;
 use crate::mistake::Mistake;
 use crate::number::degree_in;
 use bounds::BoundsWords;
 use clap::error::ErrorKind;
 use clap::{ArgMatches, Error};
+use explain_commands::program;
 use plot::PlotWords;
 use profile::ProfileWords;
 use std::alloc::{AllocError, Global};
@@ -67,6 +68,10 @@ pub enum Request<'a> {
     Plot(PlotWords<'a>),
     /// Say how often lines of a program are run at most by a call of a function.
     Profile(ProfileWords<'a>),
+    /// Serve an editor, with bounds of degrees up to one.
+    Lsp {
+        degree: u8,
+    },
 }
 
 /// Why words give no request.
@@ -145,6 +150,7 @@ fn asked_of<'a>(
         "why" => why::asked(alloc, found),
         "plot" => plot::asked(alloc, found),
         "profile" => profile::asked(alloc, found),
+        "lsp" => lsp::asked(alloc, found),
         _ => Err(Mistake::NoCommand.told(alloc)),
     }
 }

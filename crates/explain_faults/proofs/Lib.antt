@@ -1,0 +1,4 @@
+mod Computed
+mod Mending
+mod Refused
+mod Single

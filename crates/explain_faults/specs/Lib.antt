@@ -1,0 +1,5 @@
+pub mod Example
+pub mod Faults
+pub mod Laws
+pub mod Repairs
+pub mod Told

@@ -1,0 +1,3 @@
+mod Computed
+mod Each
+mod Places

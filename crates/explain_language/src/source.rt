@@ -1,0 +1,79 @@
+// What is told of a source.
+ghost use Rattle.std.specs.Prelude.{◌≡◌, ◌≤◌, ◌<◌, ◌++◌, codes, decimal, length, string_bytes, IfOk};
+ghost use Rattle.lsp_language.specs.declared.insight.Severity.TheVariants as severity;
+ghost use Rattle.raml_syntax.specs.Read.{program_of};
+ghost use Rattle.explain_check.specs.Checks.{IsProgramOf, most_bytes};
+ghost use Rattle.explain_faults.specs.Faults.{IsFirst};
+ghost use Rattle.explain_language.specs.Told.{IsAnalysed, IsFaulty, IsLong, IsTold};
+
+use explain_bounds::laws::findings_can_be_told;
+use explain_check::MOST_BYTES;
+use explain_faults::{Found, SourceFault, fault_insight, found_in};
+use explain_insight::program_insight;
+use explain_trials::found_of;
+use lsp_language::{Diagnostic, Insight, Severity, Span};
+use simple_types::Typed;
+use std::alloc::{AllocError, Global};
+
+/// What is told of a source: its first fault, or the bounds of its functions at degrees up to `most`.
+pub(crate) fn source_insight(alloc: Global, source: &[u8], most: u8) -> Result<Insight, AllocError>
+    requires { most ≤ 4 }
+    ensures { IfOk result (IsTold most source.now) }
+{
+    if source.len() as u64 > MOST_BYTES {
+        return long_insight(alloc, source);
+    }
+    match found_in(alloc, source)? {
+        Found::Program(typed) => typed_insight(alloc, source, &typed, most),
+        Found::Fault(fault) => faulty_insight(alloc, source, &fault),
+    }
+}
+
+/// What is told of the source of a typed program.
+fn typed_insight(
+    alloc: Global,
+    source: &[u8],
+    typed: &Typed,
+    most: u8,
+) -> Result<Insight, AllocError>
+    requires spelled { IsProgramOf source.now (program_of typed.now) }
+    requires most { most ≤ 4 }
+    ensures { IfOk result (IsAnalysed most source.now) }
+{
+    let found = found_of(alloc, typed, most)?;
+    findings_can_be_told();
+    program_insight(alloc, source, typed.program(), &found.functions)
+}
+
+/// What is told of a source with this fault.
+fn faulty_insight(alloc: Global, source: &[u8], fault: &SourceFault) -> Result<Insight, AllocError>
+    requires { IsFirst source.now fault.now }
+    ensures { IfOk result (IsFaulty source.now) }
+{
+    fault_insight(alloc, source, fault)
+}
+
+/// What is told of a source that is longer than it may be.
+fn long_insight(alloc: Global, source: &[u8]) -> Result<Insight, AllocError>
+    requires { most_bytes < length source.now }
+    ensures { IfOk result (IsLong source.now) }
+{
+    let mut insight = Insight::new(alloc);
+    insight.diagnostics.push(too_long(alloc)?)?;
+    Ok(insight)
+}
+
+/// That a source is longer than it may be, at its start.
+fn too_long(alloc: Global) -> Result<Diagnostic, AllocError>
+    ensures start { IfOk result (λ d. d.span.start ≡ 0) }
+    ensures severity { IfOk result (λ d. d.severity ≡ severity.Error) }
+    ensures message { IfOk result (λ d. string_bytes d.message ≡ codes "longer than " ++ (decimal most_bytes ++ codes " bytes")) }
+{
+    Ok(Diagnostic {
+        span: Span { start: 0, end: 0 },
+        severity: Severity::Error,
+        code: None,
+        message: format!(in alloc; "longer than {MOST_BYTES} bytes")?,
+        related: Vec::new(alloc),
+    })
+}

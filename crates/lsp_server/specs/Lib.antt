@@ -1,0 +1,9 @@
+pub mod State
+pub mod Sent
+pub mod Life
+pub mod Documents
+pub mod Requests
+pub mod Notices
+pub mod Protocol
+pub mod Told
+pub mod Example

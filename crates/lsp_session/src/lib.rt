@@ -1,0 +1,9 @@
+//! A session with an editor: messages are read from one stream, and what a server sends for them is written to another,
+//! until the editor ends it.
+#![tactic(auto)]
+
+mod end;
+mod session;
+
+pub use end::SessionEnd;
+pub use session::serve;
