@@ -1,0 +1,4 @@
+pub mod Lines
+pub mod Columns
+pub mod Positions
+pub mod Example
