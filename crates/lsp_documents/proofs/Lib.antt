@@ -1,0 +1,2 @@
+mod Computed
+pub mod Changing

@@ -1,0 +1,5 @@
+use Rattle.lsp_frames.proofs.Computed.{examples_hold}
+use Rattle.lsp_frames.proofs.laws.small_examples.Goals as goal
+
+pub returns : goal.returns
+returns c = examples_hold

@@ -1,0 +1,10 @@
+//! What a language tells of a text, as an editor shows it: faults, words on a place, bounds above a line, changes.
+#![tactic(auto)]
+
+mod insight;
+mod language;
+mod span;
+
+pub use insight::{Action, Diagnostic, Edit, Hint, Hover, Insight, Lens, Related, Severity};
+pub use language::Language;
+pub use span::Span;

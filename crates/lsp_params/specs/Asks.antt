@@ -1,0 +1,24 @@
+-- What requests on a text ask.
+use Rattle.std.specs.Prelude.{ℕ, List, codes, Option, None, Some, option_map, option_and_then}
+use Rattle.serde_json.specs.Data.{Data}
+use Rattle.serde_json.specs.Find.{get}
+use Rattle.lsp_params.specs.Json.{text_in, position_in, range_in}
+use Rattle.lsp_params.specs.declared.ask.Subject.{Subject}
+use Rattle.lsp_params.specs.declared.ask.Subject as subject
+use Rattle.lsp_params.specs.declared.ask.Ask.{Ask}
+use Rattle.lsp_params.specs.declared.ask.Ask.TheVariants.{Hover, Lenses, Hints, Actions}
+
+-- the document of which it is asked
+abbrev pub uri_of : Data → Option (List ℕ)
+uri_of params = option_and_then (text_in (codes "uri")) (get (codes "textDocument") params)
+
+-- A hover names a position, inlay hints and actions a range.
+abbrev pub ask_of : Subject → Data → Option Ask
+ask_of subject.Hover params = option_map Hover (position_in (codes "position") params)
+ask_of subject.Lenses params = Some Lenses
+ask_of subject.Hints params = option_map Hints (range_in (codes "range") params)
+ask_of subject.Actions params = option_map Actions (range_in (codes "range") params)
+
+-- a document, and what is asked of it
+abbrev pub asked_of : Subject → Data → Option (List ℕ × Ask)
+asked_of subject params = option_and_then (λ uri. option_map (λ ask. (uri, ask)) (ask_of subject params)) (uri_of params)

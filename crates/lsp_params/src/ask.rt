@@ -1,0 +1,50 @@
+// What requests on a text ask.
+ghost use Rattle.std.specs.Prelude.{◌≡◌, option_map};
+ghost use Rattle.serde_json.specs.View.{view};
+ghost use Rattle.lsp_params.specs.Asks.{uri_of, ask_of};
+
+use crate::json::{position_in, range_in, text_in};
+use lsp_documents::Range;
+use lsp_positions::Position;
+use serde_json::Value;
+
+/// Of what requests on a text are.
+#[derive(Clone, Copy, Debug, PartialEq, Eq)]
+pub enum Subject {
+    Hover,
+    Lenses,
+    Hints,
+    Actions,
+}
+
+/// What is asked of a text.
+#[derive(Clone, Copy, Debug, PartialEq, Eq)]
+pub enum Ask {
+    /// What is known at a position.
+    Hover(Position),
+    /// What is shown above lines.
+    Lenses,
+    /// What is shown inside of lines, in this range.
+    Hints(Range),
+    /// Changes that meet this range.
+    Actions(Range),
+}
+
+/// What a request asks, and `None` where its params do not say it.
+pub fn ask(subject: Subject, params: &Value) -> Option<Ask>
+    ensures { result ≡ ask_of subject (view params.now) }
+{
+    match subject {
+        Subject::Hover => Some(Ask::Hover(position_in(params, "position")?)),
+        Subject::Lenses => Some(Ask::Lenses),
+        Subject::Hints => Some(Ask::Hints(range_in(params, "range")?)),
+        Subject::Actions => Some(Ask::Actions(range_in(params, "range")?)),
+    }
+}
+
+/// The document that params name.
+pub fn uri(params: &Value) -> Option<&str>
+    ensures { option_map (λ uri. uri.now) result ≡ uri_of (view params.now) }
+{
+    text_in(params.get("textDocument")?, "uri")
+}

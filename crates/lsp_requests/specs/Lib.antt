@@ -1,0 +1,4 @@
+pub mod Kinds
+pub mod Read
+pub mod Answers
+pub mod Example

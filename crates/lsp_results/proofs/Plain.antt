@@ -1,0 +1,72 @@
+-- No result has a number with a fraction.
+use Rattle.std.proofs.Common.{◌≡◌, ℕ, ℤ, pos, negsuc, List, [], ◌∷◌, map, Bool, false, Option, None, Some, Result, Ok, Err, IfOk, refl, ap, ◌∙◌}
+use Rattle.std.specs.List.{filter}
+use Rattle.std.specs.Prelude.{string_bytes, option_map}
+use Rattle.std.specs.declared.alloc.AllocError.{AllocError}
+use Rattle.serde_json.specs.Data.{Data, number}
+use Rattle.serde_json.specs.Find.{of_integer, is_float}
+use Rattle.serde_json.specs.Written.{has_float, members_have_float}
+use Rattle.serde_json.specs.View.{view}
+use Rattle.serde_json.specs.declared.value.Value.{Value}
+use Rattle.lsp_positions.specs.declared.position.Encoding.{Encoding}
+use Rattle.lsp_positions.specs.declared.position.Encoding.TheVariants.{Utf16, Utf8}
+use Rattle.lsp_positions.specs.Positions.{offset_of}
+use Rattle.lsp_language.specs.declared.insight.Hover.{Hover}
+use Rattle.lsp_language.specs.declared.insight.Action.{Action}
+use Rattle.lsp_language.specs.declared.insight.Diagnostic.{Diagnostic}
+use Rattle.lsp_language.specs.declared.insight.Insight.{Insight}
+use Rattle.lsp_params.specs.declared.ask.Ask.{Ask}
+use Rattle.lsp_params.specs.declared.ask.Ask as a
+use Rattle.lsp_results.specs.Places.{list_json}
+use Rattle.lsp_results.specs.Hovers.{first_at, hover_or_null}
+use Rattle.lsp_results.specs.Marks.{lens_json, hint_json, is_between}
+use Rattle.lsp_results.specs.Actions.{meets, edit_json, edits_json, action_json}
+use Rattle.lsp_results.specs.Diagnostics.{related_json, all_related_json, diagnostic_members, with_code, code_of, diagnostic_json, diagnostics_json, published_json}
+use Rattle.lsp_results.specs.Capabilities.{initialized_json}
+use Rattle.lsp_results.specs.Results.{result_of}
+
+pub plain_by : (r : Result Value AllocError) (d : Data) → has_float d ≡ false → IfOk r (λ v. view v ≡ d) → IfOk r (λ v. has_float (view v) ≡ false)
+plain_by (Ok v) d plain is = ap has_float is ∙ plain
+plain_by (Err e) d plain is = is
+
+list_plain : {A : Type 0} (f : A → Data) → ((x : A) → has_float (f x) ≡ false) → (xs : List A) → has_float (list_json (map f xs)) ≡ false
+list_plain f plain [] = refl
+list_plain f plain (x ∷ xs) = rw (plain x) (list_plain f plain xs)
+
+hover_plain : (encoding : Encoding) (text : List ℕ) (hover : Option Hover) → has_float (hover_or_null encoding text hover) ≡ false
+hover_plain encoding text None = refl
+hover_plain encoding text (Some hover) = refl
+
+action_plain : (encoding : Encoding) (text uri : List ℕ) (action : Action) → has_float (action_json encoding text uri action) ≡ false
+action_plain encoding text uri action = rw (list_plain (edit_json encoding text) (λ edit. refl) action.edits.items) refl
+
+pub result_plain : (encoding : Encoding) (text uri : List ℕ) (insight : Insight) (ask : Ask) → has_float (result_of encoding text uri insight ask) ≡ false
+result_plain encoding text uri insight (a.Hover position) = hover_plain encoding text (first_at (offset_of encoding text position) insight.hovers.items)
+result_plain encoding text uri insight a.Lenses = list_plain (lens_json encoding text) (λ lens. refl) insight.lenses.items
+result_plain encoding text uri insight (a.Hints range) =
+    list_plain (hint_json encoding text) (λ hint. refl)
+    (filter (is_between (offset_of encoding text range.start) (offset_of encoding text range.end)) insight.hints.items)
+result_plain encoding text uri insight (a.Actions range) =
+    list_plain (action_json encoding text uri) (action_plain encoding text uri)
+    (filter (meets (offset_of encoding text range.start) (offset_of encoding text range.end)) insight.actions.items)
+
+code_plain : (encoding : Encoding) (text uri : List ℕ) (diagnostic : Diagnostic) (code : Option (List ℕ)) →
+    members_have_float (with_code code (diagnostic_members encoding text uri diagnostic)) ≡ false
+code_plain encoding text uri diagnostic None = rw (list_plain (related_json encoding text uri) (λ related. refl) diagnostic.related.items) refl
+code_plain encoding text uri diagnostic (Some code) = rw (list_plain (related_json encoding text uri) (λ related. refl) diagnostic.related.items) refl
+
+pub diagnostics_plain : (encoding : Encoding) (text uri : List ℕ) (diagnostics : List Diagnostic) →
+    has_float (diagnostics_json encoding text uri diagnostics) ≡ false
+diagnostics_plain encoding text uri =
+    list_plain (diagnostic_json encoding text uri) (λ diagnostic. code_plain encoding text uri diagnostic (code_of diagnostic))
+
+integer_plain : (n : ℤ) → is_float (of_integer n) ≡ false
+integer_plain (pos n) = refl
+integer_plain (negsuc n) = refl
+
+pub published_plain : (uri : List ℕ) (version : ℤ) (diagnostics : Data) → has_float diagnostics ≡ false → has_float (published_json uri version diagnostics) ≡ false
+published_plain uri version diagnostics plain = rw plain (rw (integer_plain version) refl)
+
+pub initialized_plain : (encoding : Encoding) → has_float (initialized_json encoding) ≡ false
+initialized_plain Utf16 = refl
+initialized_plain Utf8 = refl

@@ -1,0 +1,150 @@
+// An open document, and what is known of it.
+ghost use Rattle.std.specs.Prelude.{◌≡◌, Some, None, ℕ, List, IfOk, OnOk, OnErr, IsSome, false, true};
+ghost use Rattle.serde_json.specs.View.{view};
+ghost use Rattle.serde_json.specs.Written.{has_float};
+ghost use Rattle.lsp_documents.specs.Changes.{all_changed, replacements};
+ghost use Rattle.lsp_language.specs.declared.insight.Insight.{Insight};
+ghost use Rattle.lsp_results.specs.Results.{result_of};
+ghost use Rattle.lsp_server.specs.Documents.{is_of, is_unpublished, fresh, changed_to, IsLearnt, learnt, published};
+ghost use Rattle.lsp_server.specs.Notices.{published_of};
+
+use lsp_documents::{Change, ChangeFault, Document};
+use lsp_language::{Insight, Language};
+use lsp_params::Ask;
+use lsp_positions::Encoding;
+use lsp_results::{diagnostics_value, published_value, result_value};
+use serde_json::Value;
+use std::alloc::{AllocError, Global};
+use std::marker::Model;
+
+/// An open document. What is known is of its text as it is now.
+#[derive(Debug, Drop)]
+pub struct OpenDocument {
+    uri: String,
+    document: Document,
+    known: Option<Insight>,
+    published: bool,
+}
+
+impl Model for OpenDocument {
+    ghost use Rattle.std.specs.Prelude.{string_bytes};
+    ghost use Rattle.lsp_server.specs.State.{Open};
+
+    ghost Value = { Open };
+
+    ghost view = { λ d. record { uri = string_bytes d.uri; content = d.document; known = d.known; published = d.published } };
+}
+
+impl OpenDocument {
+    /// A text of which nothing is known yet.
+    pub fn new(
+        alloc: Global,
+        uri: &str,
+        version: i64,
+        text: &str,
+    ) -> Result<OpenDocument, AllocError>
+        ensures { IfOk result (λ document. document ≡ fresh uri.now version text.now) }
+    {
+        let text = String::from_str(alloc, text)?;
+        Ok(OpenDocument {
+            uri: String::from_str(alloc, uri)?,
+            document: Document::new(alloc, text, version)?,
+            known: None,
+            published: false,
+        })
+    }
+
+    /// Whether it is the document of this name.
+    pub fn is_of(&self, uri: &str) -> bool
+        ensures { result ≡ is_of uri.now self.now }
+    {
+        self.uri.as_str() == uri
+    }
+
+    /// Whether its diagnostics are not published yet.
+    pub fn is_unpublished(&self) -> bool
+        ensures { result ≡ is_unpublished self.now }
+    {
+        !self.published
+    }
+
+    /// Makes changes, after which nothing is known. Where one of them cannot be made, none is.
+    pub fn change(
+        &mut self,
+        alloc: Global,
+        encoding: Encoding,
+        version: i64,
+        changes: &[Change],
+    ) -> Result<(), AllocError>
+        ensures changed { OnOk result (self.new ≡ changed_to self.old version (all_changed encoding self.old.content.text (replacements changes.now))) }
+        ensures kept { OnErr result (self.new ≡ self.old) }
+    {
+        match self.document.change(alloc, encoding, version, changes) {
+            Ok(()) => {
+                self.known = None;
+                self.published = false;
+                Ok(())
+            }
+            Err(ChangeFault::EndBeforeStart) => Ok(()),
+            Err(ChangeFault::NoMemory) => Err(AllocError),
+        }
+    }
+
+    /// Asks the language what it tells of the text, unless it is known.
+    pub fn learn<L: Language>(&mut self, alloc: Global, language: &mut L) -> Result<(), AllocError>
+        ensures learnt { OnOk result ((insight : Insight)
+            × IsLearnt (L.tells language.old) self.old self.old.known insight × (self.new ≡ learnt self.old insight)) }
+        ensures kept { OnErr result (self.new ≡ self.old) }
+        ensures language { (text : List ℕ) → (known : Insight) → L.tells language.old text known → L.tells language.new text known }
+    {
+        if self.known.is_none() {
+            self.known = Some(language.insight(alloc, self.document.text())?);
+        }
+        Ok(())
+    }
+
+    /// What is answered where this is asked.
+    pub fn result(&self, alloc: Global, encoding: Encoding, ask: Ask) -> Result<Value, AllocError>
+        requires { IsSome self.now.known }
+        ensures value { (insight : Insight) → self.now.known ≡ Some insight
+            → IfOk result (λ value. view value ≡ result_of encoding self.now.content.text self.now.uri insight ask) }
+        ensures plain { IfOk result (λ value. has_float (view value) ≡ false) }
+    {
+        match &self.known {
+            Some(insight) => result_value(
+                alloc,
+                encoding,
+                &self.document,
+                self.uri.as_str(),
+                insight,
+                ask,
+            ),
+            None => unreachable!(),
+        }
+    }
+
+    /// What is published.
+    pub fn publication(&self, alloc: Global, encoding: Encoding) -> Result<Value, AllocError>
+        requires { IsSome self.now.known }
+        ensures value { (insight : Insight) → self.now.known ≡ Some insight
+            → IfOk result (λ value. view value ≡ published_of encoding self.now insight) }
+        ensures plain { IfOk result (λ value. has_float (view value) ≡ false) }
+    {
+        match &self.known {
+            Some(insight) => {
+                let (document, uri) = (&self.document, self.uri.as_str());
+                let diagnostics =
+                    diagnostics_value(alloc, encoding, document, uri, &insight.diagnostics)?;
+                published_value(alloc, uri, document.version(), diagnostics)
+            }
+            None => unreachable!(),
+        }
+    }
+
+    /// From now on its diagnostics are published.
+    pub fn mark_published(&mut self)
+        ensures { self.new ≡ published self.old }
+    {
+        self.published = true;
+    }
+}

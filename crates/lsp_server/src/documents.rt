@@ -1,0 +1,173 @@
+// All open documents.
+ghost use Rattle.std.specs.Prelude.{◌≡◌, ◌<◌, ◌++◌, ℕ, List, Some, None, length, IfOk, OnOk, OnErr, IfSome, MatchOption, slice_get, false, Ok};
+ghost use Rattle.serde_json.specs.Data.{Data};
+ghost use Rattle.serde_json.specs.View.{view};
+ghost use Rattle.serde_json.specs.Written.{has_float};
+ghost use Rattle.lsp_documents.specs.Changes.{replacements};
+ghost use Rattle.lsp_language.specs.declared.insight.Insight.{Insight};
+ghost use Rattle.lsp_server.specs.Documents.{is_of, is_unpublished, first_of, IsFirst, fresh, opened, changed, closed, MayLearn};
+ghost use Rattle.lsp_server.specs.State.{Open};
+ghost use Rattle.lsp_server.specs.Sent.{frames};
+ghost use Rattle.lsp_server.specs.Notices.{emptied};
+ghost use Rattle.lsp_server.specs.Protocol.{IsPublished};
+ghost use Rattle.lsp_server.specs.Requests.{OfDocument, IsOfInsight, answer_view, IsPlain};
+
+use crate::document::OpenDocument;
+use crate::sending::send_published;
+use lsp_documents::Change;
+use lsp_language::Language;
+use lsp_params::Ask;
+use lsp_positions::Encoding;
+use lsp_requests::ErrorCode;
+use lsp_results::emptied_value;
+use serde_json::Value;
+use std::alloc::{AllocError, Global};
+
+/// The place of the document of this name.
+pub fn place_of(documents: &[OpenDocument], uri: &str) -> Option<usize>
+    ensures first { MatchOption result (first_of (is_of uri.now) documents.now ≡ None) (IsFirst (is_of uri.now) documents.now) }
+    ensures within { IfSome result (λ place. place < length documents.now) }
+{
+    for place in 0..documents.len() {
+        if documents[place].is_of(uri) {
+            return Some(place);
+        }
+    }
+    None
+}
+
+/// The place of the first document whose diagnostics are not published yet.
+pub fn unpublished(documents: &[OpenDocument]) -> Option<usize>
+    ensures first { MatchOption result (first_of is_unpublished documents.now ≡ None) (IsFirst is_unpublished documents.now) }
+    ensures within { IfSome result (λ place. place < length documents.now) }
+{
+    for place in 0..documents.len() {
+        if documents[place].is_unpublished() {
+            return Some(place);
+        }
+    }
+    None
+}
+
+/// What is answered where this is asked of a document, which is known then.
+pub fn text_answer<L: Language>(
+    documents: &mut [OpenDocument],
+    alloc: Global,
+    language: &mut L,
+    encoding: Encoding,
+    uri: &str,
+    ask: Ask,
+) -> Result<Result<Value, ErrorCode>, AllocError>
+    ensures answers { IfOk result (λ answer. OfDocument (L.tells language.old) encoding documents.old documents.new
+        (first_of (is_of uri.now) documents.old) ask (answer_view answer)) }
+    ensures plain { IfOk result (λ answer. IsPlain (answer_view answer)) }
+    ensures kept { MayLearn (L.tells language.old) documents.old documents.new }
+    ensures language { (text : List ℕ) → (known : Insight) → L.tells language.old text known → L.tells language.new text known }
+{
+    match place_of(documents, uri) {
+        Some(place) => {
+            let value = answer_at(documents, place, alloc, language, encoding, ask)?;
+            Ok(Ok(value))
+        }
+        None => Ok(Err(ErrorCode::InvalidParams)),
+    }
+}
+
+fn answer_at<L: Language>(
+    documents: &mut [OpenDocument],
+    place: usize,
+    alloc: Global,
+    language: &mut L,
+    encoding: Encoding,
+    ask: Ask,
+) -> Result<Value, AllocError>
+    requires { place < length documents.old }
+    ensures answers { (document : Open) → slice_get documents.old place ≡ Some document → IfOk result (λ value.
+        IsOfInsight (L.tells language.old) encoding documents.old documents.new (place, document) ask (Ok (view value))) }
+    ensures plain { IfOk result (λ value. has_float (view value) ≡ false) }
+    ensures kept { MayLearn (L.tells language.old) documents.old documents.new }
+    ensures language { (text : List ℕ) → (known : Insight) → L.tells language.old text known → L.tells language.new text known }
+{
+    documents[place].learn(alloc, language)?;
+    documents[place].result(alloc, encoding, ask)
+}
+
+/// Opens a document, in the place of one that is open by its name.
+pub fn open(
+    documents: &mut Vec<OpenDocument>,
+    alloc: Global,
+    uri: &str,
+    version: i64,
+    text: &str,
+) -> Result<(), AllocError>
+    ensures opened { OnOk result (documents.new.items ≡ opened documents.old.items (fresh uri.now version text.now)) }
+    ensures kept { OnErr result (documents.new.items ≡ documents.old.items) }
+{
+    let document = OpenDocument::new(alloc, uri, version, text)?;
+    match place_of(documents, uri) {
+        Some(place) => documents[place] = document,
+        None => documents.push(document)?,
+    }
+    Ok(())
+}
+
+/// Changes a document, where it is open.
+pub fn change(
+    documents: &mut [OpenDocument],
+    alloc: Global,
+    encoding: Encoding,
+    uri: &str,
+    version: i64,
+    changes: &[Change],
+) -> Result<(), AllocError>
+    ensures changed { OnOk result (documents.new ≡ changed encoding documents.old uri.now version (replacements changes.now)) }
+    ensures kept { OnErr result (documents.new ≡ documents.old) }
+{
+    match place_of(documents, uri) {
+        Some(place) => documents[place].change(alloc, encoding, version, changes),
+        None => Ok(()),
+    }
+}
+
+/// Closes a document, where it is open, and publishes that nothing is left of its diagnostics.
+pub fn close(
+    documents: &mut Vec<OpenDocument>,
+    alloc: Global,
+    uri: &str,
+    out: &mut Vec<u8>,
+) -> Result<(), AllocError>
+    ensures closed { OnOk result (documents.new.items ≡ closed documents.old.items uri.now) }
+    ensures sent { OnOk result (out.new.items ≡ out.old.items ++ frames (emptied uri.now (first_of (is_of uri.now) documents.old.items))) }
+    ensures kept { OnErr result (documents.new.items ≡ documents.old.items) }
+    ensures unsent { OnErr result (out.new.items ≡ out.old.items) }
+{
+    if let Some(place) = place_of(documents, uri) {
+        send_published(alloc, emptied_value(alloc, uri)?, out)?;
+        documents.remove(place);
+    }
+    Ok(())
+}
+
+/// Publishes the diagnostics of a document, which is known then.
+pub fn publish_at<L: Language>(
+    documents: &mut [OpenDocument],
+    place: usize,
+    alloc: Global,
+    language: &mut L,
+    encoding: Encoding,
+    out: &mut Vec<u8>,
+) -> Result<(), AllocError>
+    requires { place < length documents.old }
+    ensures published { (document : Open) → slice_get documents.old place ≡ Some document → OnOk result ((sent : List Data)
+        × IsPublished (L.tells language.old) encoding documents.old documents.new (place, document) sent
+        × (out.new.items ≡ out.old.items ++ frames sent)) }
+    ensures kept { OnErr result (MayLearn (L.tells language.old) documents.old documents.new) }
+    ensures unsent { OnErr result (out.new.items ≡ out.old.items) }
+    ensures language { (text : List ℕ) → (known : Insight) → L.tells language.old text known → L.tells language.new text known }
+{
+    documents[place].learn(alloc, language)?;
+    let params = documents[place].publication(alloc, encoding)?;
+    send_published(alloc, params, out)?;
+    documents[place].mark_published();
+    Ok(())
+}
