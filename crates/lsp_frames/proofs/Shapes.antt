@@ -56,13 +56,13 @@ frame_is bytes content rest e =
     let fits : h.place + 4 ≤ length window = omega (arith, long, left, f.within) in
     let size_of_header : length (take h.place bytes) ≡ h.place = length-take h.place bytes ∙ min-eq_left (omega (arith, fits, few)) in
     let at_place : (k : ℕ) → k + 4 ≤ length window → begins blank_line (drop k bytes) ≡ begins blank_line (drop k window) =
-        λ k within. ap (λ (l : List ℕ). begins blank_line (drop k l)) (sym joined) ∙ begins_at_more blank_line window behind k within in
+    λ k within. ap (λ (l : List ℕ). begins blank_line (drop k l)) (sym joined) ∙ begins_at_more blank_line window behind k within in
     let here : drop h.place bytes ≡ blank_line ++ drop 4 (drop h.place bytes) = begins_is blank_line (drop h.place bytes) (at_place h.place fits ∙ f.here) in
     let content_size : length content ≡ w.size =
-        ap length w.content_is ∙ length-take w.size (drop w.start bytes) ∙ min-eq_left (let rest_size = length-drop w.start bytes in omega (arith, rest_size, w.within)) in
+    ap length w.content_is ∙ length-take w.size (drop w.start bytes) ∙ min-eq_left (let rest_size = length-drop w.start bytes in omega (arith, rest_size, w.within)) in
     let parts : drop w.start bytes ≡ content ++ rest =
-        sym (take-append-drop w.size (drop w.start bytes))
-        ∙ (λ i. sym w.content_is i ++ (drop-drop w.size w.start bytes ∙ sym w.rest_is) i) in
+    sym (take-append-drop w.size (drop w.start bytes))
+    ∙ (λ i. sym w.content_is i ++ (drop-drop w.size w.start bytes ∙ sym w.rest_is) i) in
     let behind_blank : drop 4 (drop h.place bytes) ≡ content ++ rest = drop-drop 4 h.place bytes ∙ ap (λ n. drop n bytes) (sym h.at) ∙ parts in
     record {
       header = take h.place bytes;

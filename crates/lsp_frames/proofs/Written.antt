@@ -124,16 +124,16 @@ front_read header content rest n first short told size =
     let four : length (header ++ blank_line) ≡ place + 4 = length-append header blank_line in
     let grouped : bytes ≡ (header ++ blank_line) ++ (content ++ rest) = sym (append_assoc header blank_line (content ++ rest)) in
     let window : take most_header bytes ≡ header ++ (blank_line ++ more) =
-        ap (take most_header) grouped
-        ∙ take_of_both most_header (header ++ blank_line) (content ++ rest)
-        ∙ ap (λ (l : List ℕ). l ++ more) (take_all most_header (header ++ blank_line) (omega (arith, four, short)))
-        ∙ append_assoc header blank_line more in
+    ap (take most_header) grouped
+    ∙ take_of_both most_header (header ++ blank_line) (content ++ rest)
+    ∙ ap (λ (l : List ℕ). l ++ more) (take_all most_header (header ++ blank_line) (omega (arith, four, short)))
+    ∙ append_assoc header blank_line more in
     let here : begins blank_line (drop place (take most_header bytes)) ≡ true =
-        ap (λ (l : List ℕ). begins blank_line (drop place l)) window ∙ ap (begins blank_line) (drop_at header (blank_line ++ more) place refl) in
+    ap (λ (l : List ℕ). begins blank_line (drop place l)) window ∙ ap (begins blank_line) (drop_at header (blank_line ++ more) place refl) in
     let sum = length-append header (blank_line ++ more) in
     let long = ap length window in
     let found : first_place blank_line (take most_header bytes) ≡ Some place =
-        found_first blank_line (take most_header bytes) place (none_in_front blank_line bytes most_header place (omega arith) first) here (omega (arith, sum, long)) in
+    found_first blank_line (take most_header bytes) place (none_in_front blank_line bytes most_header place (omega arith) first) here (omega (arith, sum, long)) in
     let cut : take place bytes ≡ header = take_at header (blank_line ++ (content ++ rest)) place refl in
     let head : head_of bytes ≡ Told (place + 4) n = ap (head_at bytes) found ∙ ap (λ (l : List ℕ). head_told (place + 4) (length_in l)) cut ∙ ap (head_told (place + 4)) told in
     let whole = length-append header (blank_line ++ (content ++ rest)) in

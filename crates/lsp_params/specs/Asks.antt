@@ -3,10 +3,10 @@ use Rattle.std.specs.Prelude.{ℕ, List, codes, Option, None, Some, option_map, 
 use Rattle.serde_json.specs.Data.{Data}
 use Rattle.serde_json.specs.Find.{get}
 use Rattle.lsp_params.specs.Json.{text_in, position_in, range_in}
-use Rattle.lsp_params.specs.declared.ask.Subject.{Subject}
-use Rattle.lsp_params.specs.declared.ask.Subject as subject
-use Rattle.lsp_params.specs.declared.ask.Ask.{Ask}
-use Rattle.lsp_params.specs.declared.ask.Ask.TheVariants.{Hover, Lenses, Hints, Actions}
+use Rattle.lsp_params.specs.declared.asking.Subject.{Subject}
+use Rattle.lsp_params.specs.declared.asking.Subject.TheVariants as subject
+use Rattle.lsp_params.specs.declared.asking.Ask.{Ask}
+use Rattle.lsp_params.specs.declared.asking.Ask.TheVariants.{Hover, Lenses, Hints, Actions}
 
 -- the document of which it is asked
 abbrev pub uri_of : Data → Option (List ℕ)

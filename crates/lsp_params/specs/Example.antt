@@ -4,9 +4,9 @@ use Rattle.serde_json.specs.Data.{Data, null, number, unsigned, string, array, o
 use Rattle.lsp_params.specs.Asks.{asked_of}
 use Rattle.lsp_params.specs.Opened.{opening_of, changes_of, versioned_of}
 use Rattle.lsp_params.specs.Agreed.{agreed}
-use Rattle.lsp_params.specs.declared.ask.Ask.{Ask}
-use Rattle.lsp_params.specs.declared.ask.Ask as a
-use Rattle.lsp_params.specs.declared.ask.Subject.TheVariants.{Hover, Lenses, Hints}
+use Rattle.lsp_params.specs.declared.asking.Ask.{Ask}
+use Rattle.lsp_params.specs.declared.asking.Ask.TheVariants as a
+use Rattle.lsp_params.specs.declared.asking.Subject.TheVariants.{Hover, Lenses, Hints}
 use Rattle.lsp_positions.specs.declared.position.Encoding.TheVariants.{Utf16, Utf8}
 
 abbrev place : ℕ → ℕ → Data
@@ -30,7 +30,7 @@ abbrev two_changes : Data
 two_changes =
     object (member (codes "contentChanges")
     (array (item (object (member (codes "range") (object (member (codes "end") (place 0 1) (member (codes "start") (place 0 0) no_members)))
-      (member (codes "text") (string (codes "x")) no_members)))
+    (member (codes "text") (string (codes "x")) no_members)))
     (item (object (member (codes "text") (string (codes "y")) no_members)) no_items))) no_members)
 
 abbrev offers : Data → Data
@@ -46,7 +46,7 @@ pub record Examples : Type 0 where
       ≡ Some (record { uri = codes "u"; version = pos 3; text = codes "t" })
   pub changes : changes_of two_changes
       ≡ Some (record { range = Some (record { start = record { line = 0; character = 0 }; end = record { line = 0; character = 1 } }); text = codes "x" }
-        ∷ record { range = None; text = codes "y" } ∷ [])
+      ∷ record { range = None; text = codes "y" } ∷ [])
   pub no_version : versioned_of (object in_file) ≡ None
   pub offered : agreed (Some (offers (array (item (string (codes "utf-16")) (item (string (codes "utf-8")) no_items))))) ≡ Utf8
   pub not_offered : agreed (Some (offers (array (item (string (codes "utf-32")) no_items)))) ≡ Utf16

@@ -2,7 +2,7 @@
 use Rattle.std.specs.Prelude.{ℕ, ℤ, List}
 use Rattle.std.specs.Borrow.{Bor}
 use Rattle.lsp_params.specs.Opened as o
-use Rattle.lsp_params.specs.declared.opened.Opening.{Opening}
+use Rattle.lsp_params.specs.declared.opening.Opening.{Opening}
 
 abbrev pub opening_view : Opening → o.Opening
 opening_view opening = record { uri = opening.uri.now; version = opening.version; text = opening.text.now }

@@ -1,12 +1,12 @@
 //! Params of the messages of a client: what they ask, and which documents they open and change.
 #![tactic(auto)]
 
-mod agreed;
-mod ask;
+mod asking;
+mod encoding;
 mod json;
 pub mod laws;
-mod opened;
+mod opening;
 
-pub use agreed::agreed;
-pub use ask::{Ask, Subject, ask, uri};
-pub use opened::{Opening, changes, opening, versioned};
+pub use asking::{Ask, Subject, ask_of, uri_of};
+pub use encoding::agreed;
+pub use opening::{Opening, changes_of, opening_of, versioned_of};

@@ -15,8 +15,8 @@ use Rattle.lsp_language.specs.declared.insight.Hover.{Hover}
 use Rattle.lsp_language.specs.declared.insight.Action.{Action}
 use Rattle.lsp_language.specs.declared.insight.Diagnostic.{Diagnostic}
 use Rattle.lsp_language.specs.declared.insight.Insight.{Insight}
-use Rattle.lsp_params.specs.declared.ask.Ask.{Ask}
-use Rattle.lsp_params.specs.declared.ask.Ask as a
+use Rattle.lsp_params.specs.declared.asking.Ask.{Ask}
+use Rattle.lsp_params.specs.declared.asking.Ask.TheVariants as a
 use Rattle.lsp_results.specs.Places.{list_json}
 use Rattle.lsp_results.specs.Hovers.{first_at, hover_or_null}
 use Rattle.lsp_results.specs.Marks.{lens_json, hint_json, is_between}

@@ -4,8 +4,8 @@ use Rattle.serde_json.specs.Data.{Data}
 use Rattle.lsp_positions.specs.Positions.{offset_of}
 use Rattle.lsp_positions.specs.declared.position.Encoding.{Encoding}
 use Rattle.lsp_language.specs.declared.insight.Insight.{Insight}
-use Rattle.lsp_params.specs.declared.ask.Ask.{Ask}
-use Rattle.lsp_params.specs.declared.ask.Ask.TheVariants.{Hover, Lenses, Hints, Actions}
+use Rattle.lsp_params.specs.declared.asking.Ask.{Ask}
+use Rattle.lsp_params.specs.declared.asking.Ask.TheVariants.{Hover, Lenses, Hints, Actions}
 use Rattle.lsp_results.specs.Hovers.{hover_at}
 use Rattle.lsp_results.specs.Marks.{lenses_json, hints_json}
 use Rattle.lsp_results.specs.Actions.{actions_json}

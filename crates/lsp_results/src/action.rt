@@ -25,7 +25,10 @@ pub fn actions_value(
     let mut items = Vec::new(alloc);
     for action in actions {
         if meets(from, to, action) {
-            push(&mut items, action_value(alloc, encoding, document, uri, action)?)?;
+            push(
+                &mut items,
+                action_value(alloc, encoding, document, uri, action)?,
+            )?;
         }
     }
     Ok(Value::Array(items))
@@ -48,7 +51,12 @@ fn action_value(
 {
     let edits = edits_value(alloc, encoding, document, &action.edits)?;
     let mut members = Map::new(alloc);
-    put(&mut members, alloc, "edit", workspace_value(alloc, uri, edits)?)?;
+    put(
+        &mut members,
+        alloc,
+        "edit",
+        workspace_value(alloc, uri, edits)?,
+    )?;
     put_text(&mut members, alloc, "kind", "quickfix")?;
     put_text(&mut members, alloc, "title", action.title.as_str())?;
     Ok(Value::Object(members))

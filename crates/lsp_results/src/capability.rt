@@ -29,11 +29,26 @@ fn capabilities_value(alloc: Global, encoding: Encoding) -> Result<Value, AllocE
     ensures { IfOk result (λ value. view value ≡ capabilities_json encoding) }
 {
     let mut members = Map::new(alloc);
-    put(&mut members, alloc, "codeActionProvider", kinds_value(alloc)?)?;
-    put(&mut members, alloc, "codeLensProvider", Value::Object(Map::new(alloc)))?;
+    put(
+        &mut members,
+        alloc,
+        "codeActionProvider",
+        kinds_value(alloc)?,
+    )?;
+    put(
+        &mut members,
+        alloc,
+        "codeLensProvider",
+        Value::Object(Map::new(alloc)),
+    )?;
     put(&mut members, alloc, "hoverProvider", Value::Bool(true))?;
     put(&mut members, alloc, "inlayHintProvider", Value::Bool(true))?;
-    put_text(&mut members, alloc, "positionEncoding", encoding_name(encoding))?;
+    put_text(
+        &mut members,
+        alloc,
+        "positionEncoding",
+        encoding_name(encoding),
+    )?;
     put(&mut members, alloc, "textDocumentSync", sync_value(alloc)?)?;
     Ok(Value::Object(members))
 }

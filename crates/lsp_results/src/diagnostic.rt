@@ -72,7 +72,10 @@ fn all_diagnostics_value(
 {
     let mut items = Vec::new(alloc);
     for diagnostic in diagnostics {
-        push(&mut items, diagnostic_value(alloc, encoding, document, uri, diagnostic)?)?;
+        push(
+            &mut items,
+            diagnostic_value(alloc, encoding, document, uri, diagnostic)?,
+        )?;
     }
     Ok(Value::Array(items))
 }
@@ -133,7 +136,12 @@ fn put_kind(
     ensures { OnOk result (members_view members.new.entries ≡ with_member (codes "source") (string (codes "explain"))
         (with_member (codes "severity") (natural (severity_of severity)) (members_view members.old.entries))) }
 {
-    put(members, alloc, "severity", Value::from(severity_number(severity)))?;
+    put(
+        members,
+        alloc,
+        "severity",
+        Value::from(severity_number(severity)),
+    )?;
     put_text(members, alloc, "source", "explain")
 }
 
@@ -175,7 +183,10 @@ fn all_related_value(
 {
     let mut items = Vec::new(alloc);
     for one in related {
-        push(&mut items, related_value(alloc, encoding, document, uri, one)?)?;
+        push(
+            &mut items,
+            related_value(alloc, encoding, document, uri, one)?,
+        )?;
     }
     Ok(Value::Array(items))
 }
@@ -191,7 +202,12 @@ fn related_value(
 {
     let range = span_value(alloc, encoding, document, related.span)?;
     let mut members = Map::new(alloc);
-    put(&mut members, alloc, "location", location_value(alloc, range, uri)?)?;
+    put(
+        &mut members,
+        alloc,
+        "location",
+        location_value(alloc, range, uri)?,
+    )?;
     put_text(&mut members, alloc, "message", related.message.as_str())?;
     Ok(Value::Object(members))
 }

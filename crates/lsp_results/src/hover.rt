@@ -54,7 +54,12 @@ fn hover_value(
     ensures { IfOk result (λ value. view value ≡ hover_json encoding document.now.text hover.now) }
 {
     let mut members = Map::new(alloc);
-    put(&mut members, alloc, "contents", markup_value(alloc, hover.text.as_str())?)?;
+    put(
+        &mut members,
+        alloc,
+        "contents",
+        markup_value(alloc, hover.text.as_str())?,
+    )?;
     put_span(&mut members, alloc, encoding, document, hover.span)?;
     Ok(Value::Object(members))
 }

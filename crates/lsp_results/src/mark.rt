@@ -35,7 +35,12 @@ fn lens_value(
     ensures { IfOk result (λ value. view value ≡ lens_json encoding document.now.text lens.now) }
 {
     let mut members = Map::new(alloc);
-    put(&mut members, alloc, "command", title_value(alloc, lens.title.as_str())?)?;
+    put(
+        &mut members,
+        alloc,
+        "command",
+        title_value(alloc, lens.title.as_str())?,
+    )?;
     put_span(&mut members, alloc, encoding, document, lens.span)?;
     Ok(Value::Object(members))
 }

@@ -66,7 +66,12 @@ pub fn put_span(
     ensures { OnOk result (members_view members.new.entries
         ≡ with_member (codes "range") (span_json encoding document.now.text span) (members_view members.old.entries)) }
 {
-    put(members, alloc, "range", span_value(alloc, encoding, document, span)?)
+    put(
+        members,
+        alloc,
+        "range",
+        span_value(alloc, encoding, document, span)?,
+    )
 }
 
 fn position_value(alloc: Global, position: Position) -> Result<Value, AllocError>

@@ -1,2 +1,4 @@
 mod Places
+mod Kept
+mod Taken
 mod Computed

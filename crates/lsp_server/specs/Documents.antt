@@ -61,6 +61,10 @@ abbrev pub IsLearnt : (List ℕ → Insight → Type 0) → Open → Option Insi
 IsLearnt tells document None insight = tells document.content.text insight
 IsLearnt tells document (Some known) insight = insight ≡ known
 
+-- what a language told, it tells again
+abbrev pub Keeps : (List ℕ → Insight → Type 0) → (List ℕ → Insight → Type 0) → Type 0
+Keeps before after = (text : List ℕ) → (known : Insight) → before text known → after text known
+
 abbrev pub learnt : Open → Insight → Open
 learnt document insight = record { uri = document.uri; content = document.content; known = Some insight; published = document.published }
 
@@ -69,7 +73,7 @@ abbrev pub MayLearn : (List ℕ → Insight → Type 0) → List Open → List O
 MayLearn tells before after =
     (after ≡ before)
     ⊎ ((place : ℕ) × (document : Open) × (insight : Insight) × (slice_get before place ≡ Some document)
-      × IsLearnt tells document document.known insight × (after ≡ slice_set before place (learnt document insight)))
+    × IsLearnt tells document document.known insight × (after ≡ slice_set before place (learnt document insight)))
 
 abbrev pub published : Open → Open
 published document = record { uri = document.uri; content = document.content; known = document.known; published = true }

@@ -7,12 +7,12 @@ use Rattle.lsp_server.specs.Documents.{is_of, first_of, fresh, opened, changed, 
 use Rattle.lsp_server.specs.Requests.{fresh_answer}
 use Rattle.lsp_server.specs.Protocol.{flow_of}
 use Rattle.lsp_requests.specs.declared.code.ErrorCode.TheVariants.{NotInitialized}
-use Rattle.lsp_params.specs.declared.ask.Subject.TheVariants.{Hover}
+use Rattle.lsp_params.specs.declared.asking.Subject.TheVariants.{Hover}
 use Rattle.lsp_positions.specs.declared.position.Encoding.TheVariants.{Utf16}
 use Rattle.lsp_server.specs.declared.life.Life.TheVariants.{Fresh, Running, ShutDown}
 use Rattle.lsp_server.specs.declared.life.Flow.TheVariants.{GoOn, End}
 use Rattle.lsp_server.specs.declared.method.Method.TheVariants.{Initialize, Shutdown, About, Unknown}
-use Rattle.lsp_server.specs.declared.method.Notice as n
+use Rattle.lsp_server.specs.declared.method.Notice.TheVariants as n
 
 abbrev a : Open
 a = fresh (codes "a") (pos 1) (codes "x")

@@ -4,7 +4,7 @@ use Rattle.std.specs.Str.{bytes_eq}
 use Rattle.serde_json.specs.Data.{Data}
 use Rattle.lsp_positions.specs.declared.position.Encoding.{Encoding}
 use Rattle.lsp_params.specs.Agreed.{agreed}
-use Rattle.lsp_params.specs.declared.ask.Subject.TheVariants.{Hover, Lenses, Hints, Actions}
+use Rattle.lsp_params.specs.declared.asking.Subject.TheVariants.{Hover, Lenses, Hints, Actions}
 use Rattle.lsp_server.specs.declared.life.Life.{Life}
 use Rattle.lsp_server.specs.declared.life.Life.TheVariants.{Fresh, Running, ShutDown}
 use Rattle.lsp_server.specs.declared.method.Method.{Method}

@@ -13,7 +13,7 @@ use Rattle.lsp_server.specs.Documents.{is_of, first_of, fresh, opened, changed, 
 use Rattle.lsp_server.specs.declared.life.Life.{Life}
 use Rattle.lsp_server.specs.declared.life.Life.TheVariants.{Fresh, Running, ShutDown}
 use Rattle.lsp_server.specs.declared.method.Notice.{Notice}
-use Rattle.lsp_server.specs.declared.method.Notice as n
+use Rattle.lsp_server.specs.declared.method.Notice.TheVariants as n
 
 -- Params that do not say what they should are passed over.
 abbrev pub opened_by : List Open → Option Opening → List Open

@@ -12,7 +12,7 @@ use Rattle.lsp_requests.specs.declared.code.ErrorCode.{ErrorCode}
 use Rattle.lsp_requests.specs.declared.code.ErrorCode.TheVariants.{InvalidRequest, MethodNotFound, InvalidParams, NotInitialized}
 use Rattle.lsp_params.specs.Agreed.{agreed}
 use Rattle.lsp_params.specs.Asks.{asked_of}
-use Rattle.lsp_params.specs.declared.ask.Ask.{Ask}
+use Rattle.lsp_params.specs.declared.asking.Ask.{Ask}
 use Rattle.lsp_results.specs.Capabilities.{initialized_json}
 use Rattle.lsp_results.specs.Results.{result_of}
 use Rattle.lsp_server.specs.State.{Open, State}

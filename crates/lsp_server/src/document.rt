@@ -5,7 +5,7 @@ ghost use Rattle.serde_json.specs.Written.{has_float};
 ghost use Rattle.lsp_documents.specs.Changes.{all_changed, replacements};
 ghost use Rattle.lsp_language.specs.declared.insight.Insight.{Insight};
 ghost use Rattle.lsp_results.specs.Results.{result_of};
-ghost use Rattle.lsp_server.specs.Documents.{is_of, is_unpublished, fresh, changed_to, IsLearnt, learnt, published};
+ghost use Rattle.lsp_server.specs.Documents.{is_of, is_unpublished, fresh, changed_to, IsLearnt, learnt, published, Keeps};
 ghost use Rattle.lsp_server.specs.Notices.{published_of};
 
 use lsp_documents::{Change, ChangeFault, Document};
@@ -95,11 +95,24 @@ impl OpenDocument {
         ensures learnt { OnOk result ((insight : Insight)
             × IsLearnt (L.tells language.old) self.old self.old.known insight × (self.new ≡ learnt self.old insight)) }
         ensures kept { OnErr result (self.new ≡ self.old) }
-        ensures language { (text : List ℕ) → (known : Insight) → L.tells language.old text known → L.tells language.new text known }
+        ensures language { Keeps (L.tells language.old) (L.tells language.new) }
     {
-        if self.known.is_none() {
-            self.known = Some(language.insight(alloc, self.document.text())?);
+        match &self.known {
+            Some(_) => Ok(()),
+            None => self.ask(alloc, language),
         }
+    }
+
+    // Asks the language what it tells of the text, of which nothing is known.
+    fn ask<L: Language>(&mut self, alloc: Global, language: &mut L) -> Result<(), AllocError>
+        requires { self.old.known ≡ None }
+        ensures learnt { OnOk result ((insight : Insight)
+            × L.tells language.old self.old.content.text insight × (self.new ≡ learnt self.old insight)) }
+        ensures kept { OnErr result (self.new ≡ self.old) }
+        ensures language { Keeps (L.tells language.old) (L.tells language.new) }
+    {
+        let insight = language.insight(alloc, self.document.text())?;
+        self.known = Some(insight);
         Ok(())
     }
 
@@ -131,14 +144,30 @@ impl OpenDocument {
         ensures plain { IfOk result (λ value. has_float (view value) ≡ false) }
     {
         match &self.known {
-            Some(insight) => {
-                let (document, uri) = (&self.document, self.uri.as_str());
-                let diagnostics =
-                    diagnostics_value(alloc, encoding, document, uri, &insight.diagnostics)?;
-                published_value(alloc, uri, document.version(), diagnostics)
-            }
+            Some(insight) => self.publication_of(alloc, encoding, insight),
             None => unreachable!(),
         }
+    }
+
+    // What is published by what is known.
+    fn publication_of(
+        &self,
+        alloc: Global,
+        encoding: Encoding,
+        insight: &Insight,
+    ) -> Result<Value, AllocError>
+        ensures value { IfOk result (λ value. view value ≡ published_of encoding self.now insight.now) }
+        ensures plain { IfOk result (λ value. has_float (view value) ≡ false) }
+    {
+        let uri = self.uri.as_str();
+        let diagnostics = diagnostics_value(
+            alloc,
+            encoding,
+            &self.document,
+            uri,
+            &insight.diagnostics,
+        )?;
+        published_value(alloc, uri, self.document.version(), diagnostics)
     }
 
     /// From now on its diagnostics are published.

@@ -5,7 +5,7 @@ ghost use Rattle.serde_json.specs.View.{view};
 ghost use Rattle.serde_json.specs.Written.{has_float};
 ghost use Rattle.lsp_documents.specs.Changes.{replacements};
 ghost use Rattle.lsp_language.specs.declared.insight.Insight.{Insight};
-ghost use Rattle.lsp_server.specs.Documents.{is_of, is_unpublished, first_of, IsFirst, fresh, opened, changed, closed, MayLearn};
+ghost use Rattle.lsp_server.specs.Documents.{is_of, is_unpublished, first_of, IsFirst, fresh, opened, changed, closed, MayLearn, Keeps};
 ghost use Rattle.lsp_server.specs.State.{Open};
 ghost use Rattle.lsp_server.specs.Sent.{frames};
 ghost use Rattle.lsp_server.specs.Notices.{emptied};
@@ -51,20 +51,20 @@ pub fn unpublished(documents: &[OpenDocument]) -> Option<usize>
 
 /// What is answered where this is asked of a document, which is known then.
 pub fn text_answer<L: Language>(
-    documents: &mut [OpenDocument],
+    documents: &mut Vec<OpenDocument>,
     alloc: Global,
     language: &mut L,
     encoding: Encoding,
     uri: &str,
     ask: Ask,
 ) -> Result<Result<Value, ErrorCode>, AllocError>
-    ensures answers { IfOk result (λ answer. OfDocument (L.tells language.old) encoding documents.old documents.new
-        (first_of (is_of uri.now) documents.old) ask (answer_view answer)) }
+    ensures answers { IfOk result (λ answer. OfDocument (L.tells language.old) encoding documents.old.items documents.new.items
+        (first_of (is_of uri.now) documents.old.items) ask (answer_view answer)) }
     ensures plain { IfOk result (λ answer. IsPlain (answer_view answer)) }
-    ensures kept { MayLearn (L.tells language.old) documents.old documents.new }
-    ensures language { (text : List ℕ) → (known : Insight) → L.tells language.old text known → L.tells language.new text known }
+    ensures kept { MayLearn (L.tells language.old) documents.old.items documents.new.items }
+    ensures language { Keeps (L.tells language.old) (L.tells language.new) }
 {
-    match place_of(documents, uri) {
+    match place_of(documents.as_slice(), uri) {
         Some(place) => {
             let value = answer_at(documents, place, alloc, language, encoding, ask)?;
             Ok(Ok(value))
@@ -74,26 +74,26 @@ pub fn text_answer<L: Language>(
 }
 
 fn answer_at<L: Language>(
-    documents: &mut [OpenDocument],
+    documents: &mut Vec<OpenDocument>,
     place: usize,
     alloc: Global,
     language: &mut L,
     encoding: Encoding,
     ask: Ask,
 ) -> Result<Value, AllocError>
-    requires { place < length documents.old }
-    ensures answers { (document : Open) → slice_get documents.old place ≡ Some document → IfOk result (λ value.
-        IsOfInsight (L.tells language.old) encoding documents.old documents.new (place, document) ask (Ok (view value))) }
+    requires { place < length documents.old.items }
+    ensures answers { (document : Open) → slice_get documents.old.items place ≡ Some document → IfOk result (λ value.
+        IsOfInsight (L.tells language.old) encoding documents.old.items documents.new.items (place, document) ask (Ok (view value))) }
     ensures plain { IfOk result (λ value. has_float (view value) ≡ false) }
-    ensures kept { MayLearn (L.tells language.old) documents.old documents.new }
-    ensures language { (text : List ℕ) → (known : Insight) → L.tells language.old text known → L.tells language.new text known }
+    ensures kept { MayLearn (L.tells language.old) documents.old.items documents.new.items }
+    ensures language { Keeps (L.tells language.old) (L.tells language.new) }
 {
     documents[place].learn(alloc, language)?;
     documents[place].result(alloc, encoding, ask)
 }
 
 /// Opens a document, in the place of one that is open by its name.
-pub fn open(
+pub fn open_document(
     documents: &mut Vec<OpenDocument>,
     alloc: Global,
     uri: &str,
@@ -104,33 +104,35 @@ pub fn open(
     ensures kept { OnErr result (documents.new.items ≡ documents.old.items) }
 {
     let document = OpenDocument::new(alloc, uri, version, text)?;
-    match place_of(documents, uri) {
-        Some(place) => documents[place] = document,
-        None => documents.push(document)?,
+    match place_of(documents.as_slice(), uri) {
+        Some(place) => {
+            documents[place] = document;
+            Ok(())
+        }
+        None => Ok(documents.push(document)?),
     }
-    Ok(())
 }
 
 /// Changes a document, where it is open.
-pub fn change(
-    documents: &mut [OpenDocument],
+pub fn change_document(
+    documents: &mut Vec<OpenDocument>,
     alloc: Global,
     encoding: Encoding,
     uri: &str,
     version: i64,
     changes: &[Change],
 ) -> Result<(), AllocError>
-    ensures changed { OnOk result (documents.new ≡ changed encoding documents.old uri.now version (replacements changes.now)) }
-    ensures kept { OnErr result (documents.new ≡ documents.old) }
+    ensures changed { OnOk result (documents.new.items ≡ changed encoding documents.old.items uri.now version (replacements changes.now)) }
+    ensures kept { OnErr result (documents.new.items ≡ documents.old.items) }
 {
-    match place_of(documents, uri) {
+    match place_of(documents.as_slice(), uri) {
         Some(place) => documents[place].change(alloc, encoding, version, changes),
         None => Ok(()),
     }
 }
 
 /// Closes a document, where it is open, and publishes that nothing is left of its diagnostics.
-pub fn close(
+pub fn close_document(
     documents: &mut Vec<OpenDocument>,
     alloc: Global,
     uri: &str,
@@ -141,7 +143,7 @@ pub fn close(
     ensures kept { OnErr result (documents.new.items ≡ documents.old.items) }
     ensures unsent { OnErr result (out.new.items ≡ out.old.items) }
 {
-    if let Some(place) = place_of(documents, uri) {
+    if let Some(place) = place_of(documents.as_slice(), uri) {
         send_published(alloc, emptied_value(alloc, uri)?, out)?;
         documents.remove(place);
     }
@@ -150,20 +152,20 @@ pub fn close(
 
 /// Publishes the diagnostics of a document, which is known then.
 pub fn publish_at<L: Language>(
-    documents: &mut [OpenDocument],
+    documents: &mut Vec<OpenDocument>,
     place: usize,
     alloc: Global,
     language: &mut L,
     encoding: Encoding,
     out: &mut Vec<u8>,
 ) -> Result<(), AllocError>
-    requires { place < length documents.old }
-    ensures published { (document : Open) → slice_get documents.old place ≡ Some document → OnOk result ((sent : List Data)
-        × IsPublished (L.tells language.old) encoding documents.old documents.new (place, document) sent
+    requires { place < length documents.old.items }
+    ensures published { (document : Open) → slice_get documents.old.items place ≡ Some document → OnOk result ((sent : List Data)
+        × IsPublished (L.tells language.old) encoding documents.old.items documents.new.items (place, document) sent
         × (out.new.items ≡ out.old.items ++ frames sent)) }
-    ensures kept { OnErr result (MayLearn (L.tells language.old) documents.old documents.new) }
+    ensures kept { OnErr result (MayLearn (L.tells language.old) documents.old.items documents.new.items) }
     ensures unsent { OnErr result (out.new.items ≡ out.old.items) }
-    ensures language { (text : List ℕ) → (known : Insight) → L.tells language.old text known → L.tells language.new text known }
+    ensures language { Keeps (L.tells language.old) (L.tells language.new) }
 {
     documents[place].learn(alloc, language)?;
     let params = documents[place].publication(alloc, encoding)?;

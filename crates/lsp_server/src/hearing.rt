@@ -3,19 +3,42 @@ ghost use Rattle.std.specs.Prelude.{◌≡◌, ◌++◌, OnOk, OnErr, option_map
 ghost use Rattle.serde_json.specs.View.{view};
 ghost use Rattle.lsp_params.specs.Asks.{uri_of};
 ghost use Rattle.lsp_params.specs.Opened.{opening_of, versioned_of, changes_of};
-ghost use Rattle.lsp_server.specs.Notices.{documents_after, opened_by, changed_by, closed_by, emptied_by, sent_by};
+ghost use Rattle.lsp_server.specs.Notices.{heard_in, sent_in, documents_after, opened_by, changed_by, closed_by, emptied_by, sent_by};
 ghost use Rattle.lsp_server.specs.Sent.{frames};
 
 use crate::document::OpenDocument;
-use crate::documents::{change, close, open};
+use crate::documents::{change_document, close_document, open_document};
+use crate::life::Life;
 use crate::method::Notice;
-use lsp_params::{changes, opening, uri, versioned};
+use lsp_params::{changes_of, opening_of, uri_of, versioned_of};
 use lsp_positions::Encoding;
 use serde_json::Value;
 use std::alloc::{AllocError, Global};
 
-/// Opens, changes or closes a document. Params that do not say it are passed over.
+/// Opens, changes or closes a document, while the server runs. Params that do not say it are passed over.
 pub fn hear(
+    documents: &mut Vec<OpenDocument>,
+    alloc: Global,
+    life: Life,
+    encoding: Encoding,
+    notice: Notice,
+    params: Option<&Value>,
+    out: &mut Vec<u8>,
+) -> Result<(), AllocError>
+    ensures heard { OnOk result (documents.new.items
+        ≡ heard_in life encoding documents.old.items notice (option_map (λ params. view params.now) params.entry)) }
+    ensures sent { OnOk result (out.new.items
+        ≡ out.old.items ++ frames (sent_in life documents.old.items notice (option_map (λ params. view params.now) params.entry))) }
+    ensures kept { OnErr result (documents.new.items ≡ documents.old.items) }
+    ensures unsent { OnErr result (out.new.items ≡ out.old.items) }
+{
+    match life {
+        Life::Running => hear_running(documents, alloc, encoding, notice, params, out),
+        Life::Fresh | Life::ShutDown => Ok(()),
+    }
+}
+
+fn hear_running(
     documents: &mut Vec<OpenDocument>,
     alloc: Global,
     encoding: Encoding,
@@ -51,31 +74,31 @@ fn hear_open(
     let Some(params) = params else {
         return Ok(());
     };
-    match opening(params) {
-        Some(o) => open(documents, alloc, o.uri, o.version, o.text),
+    match opening_of(params) {
+        Some(o) => open_document(documents, alloc, o.uri, o.version, o.text),
         None => Ok(()),
     }
 }
 
 fn hear_change(
-    documents: &mut [OpenDocument],
+    documents: &mut Vec<OpenDocument>,
     alloc: Global,
     encoding: Encoding,
     params: Option<&Value>,
 ) -> Result<(), AllocError>
-    ensures heard { OnOk result (documents.new ≡ changed_by encoding documents.old
+    ensures heard { OnOk result (documents.new.items ≡ changed_by encoding documents.old.items
         (option_and_then versioned_of (option_map (λ params. view params.now) params.entry))
         (option_and_then changes_of (option_map (λ params. view params.now) params.entry))) }
-    ensures kept { OnErr result (documents.new ≡ documents.old) }
+    ensures kept { OnErr result (documents.new.items ≡ documents.old.items) }
 {
     let Some(params) = params else {
         return Ok(());
     };
-    let Some((uri, version)) = versioned(params) else {
+    let Some((uri, version)) = versioned_of(params) else {
         return Ok(());
     };
-    match changes(alloc, params)? {
-        Some(changes) => change(documents, alloc, encoding, uri, version, &changes),
+    match changes_of(alloc, params)? {
+        Some(changes) => change_document(documents, alloc, encoding, uri, version, &changes),
         None => Ok(()),
     }
 }
@@ -96,8 +119,8 @@ fn hear_close(
     let Some(params) = params else {
         return Ok(());
     };
-    match uri(params) {
-        Some(uri) => close(documents, alloc, uri, out),
+    match uri_of(params) {
+        Some(uri) => close_document(documents, alloc, uri, out),
         None => Ok(()),
     }
 }

@@ -33,10 +33,10 @@ impl Life {
     pub fn after(self, method: Method) -> Life
         ensures { result ≡ life_after self method }
     {
-        match (self, method) {
-            (Life::Fresh, Method::Initialize) => Life::Running,
-            (Life::Running, Method::Shutdown) => Life::ShutDown,
-            _ => self,
+        match self {
+            Life::Fresh => after_fresh(method),
+            Life::Running => after_running(method),
+            Life::ShutDown => Life::ShutDown,
         }
     }
 
@@ -49,9 +49,9 @@ impl Life {
     ) -> Encoding
         ensures { result ≡ encoding_after self encoding method (option_map (λ params. view params.now) params.entry) }
     {
-        match (self, method) {
-            (Life::Fresh, Method::Initialize) => agreed(params),
-            _ => encoding,
+        match self {
+            Life::Fresh => encoding_after_fresh(encoding, method, params),
+            Life::Running | Life::ShutDown => encoding,
         }
     }
 
@@ -61,7 +61,7 @@ impl Life {
     {
         match notice {
             Notice::Exit => Flow::End(self.status()),
-            _ => Flow::GoOn,
+            Notice::Open | Notice::Change | Notice::Close | Notice::Other => Flow::GoOn,
         }
     }
 
@@ -71,7 +71,34 @@ impl Life {
     {
         match self {
             Life::ShutDown => 0,
-            _ => 1,
+            Life::Fresh | Life::Running => 1,
         }
+    }
+}
+
+fn after_fresh(method: Method) -> Life
+    ensures { result ≡ life_after Life.Fresh method }
+{
+    match method {
+        Method::Initialize => Life::Running,
+        Method::Shutdown | Method::About(_) | Method::Unknown => Life::Fresh,
+    }
+}
+
+fn after_running(method: Method) -> Life
+    ensures { result ≡ life_after Life.Running method }
+{
+    match method {
+        Method::Shutdown => Life::ShutDown,
+        Method::Initialize | Method::About(_) | Method::Unknown => Life::Running,
+    }
+}
+
+fn encoding_after_fresh(encoding: Encoding, method: Method, params: Option<&Value>) -> Encoding
+    ensures { result ≡ encoding_after Life.Fresh encoding method (option_map (λ params. view params.now) params.entry) }
+{
+    match method {
+        Method::Initialize => agreed(params),
+        Method::Shutdown | Method::About(_) | Method::Unknown => encoding,
     }
 }

@@ -5,6 +5,7 @@ ghost use Rattle.serde_json.specs.Written.{compact_text};
 ghost use Rattle.lsp_frames.specs.Frames.{frame};
 ghost use Rattle.lsp_language.specs.declared.insight.Insight.{Insight};
 ghost use Rattle.lsp_requests.specs.Read.{id_view, kind_view};
+ghost use Rattle.lsp_server.specs.Documents.{Keeps};
 ghost use Rattle.lsp_server.specs.Requests.{Answer, IsAnswered, response};
 ghost use Rattle.lsp_server.specs.Notices.{heard, sent_in};
 ghost use Rattle.lsp_server.specs.Sent.{frames};
@@ -64,7 +65,7 @@ impl Server {
         ensures taken { IfOk result (IsTaken (L.tells language.old) content.now self.old self.new out.old.items out.new.items) }
         ensures kept { OnErr result (IsAsBefore (L.tells language.old) self.old self.new) }
         ensures unsent { OnErr result (out.new.items ≡ out.old.items) }
-        ensures language { (text : List ℕ) → (known : Insight) → L.tells language.old text known → L.tells language.new text known }
+        ensures language { Keeps (L.tells language.old) (L.tells language.new) }
     {
         let message = read_message(alloc, content)?;
         self.act(alloc, language, &message.kind, message.params(), out)
@@ -81,11 +82,18 @@ impl Server {
         ensures settled { IfOk result (IsSettled (L.tells language.old) self.old self.new out.old.items out.new.items) }
         ensures kept { OnErr result (IsAsBefore (L.tells language.old) self.old self.new) }
         ensures unsent { OnErr result (out.new.items ≡ out.old.items) }
-        ensures language { (text : List ℕ) → (known : Insight) → L.tells language.old text known → L.tells language.new text known }
+        ensures language { Keeps (L.tells language.old) (L.tells language.new) }
     {
-        match unpublished(&self.documents) {
+        match unpublished(self.documents.as_slice()) {
             Some(place) => {
-                publish_at(&mut self.documents, place, alloc, language, self.encoding, out)?;
+                publish_at(
+                    &mut self.documents,
+                    place,
+                    alloc,
+                    language,
+                    self.encoding,
+                    out,
+                )?;
                 Ok(true)
             }
             None => Ok(false),
@@ -105,7 +113,7 @@ impl Server {
             (option_map (λ params. view params.now) params.entry) out.old.items out.new.items) }
         ensures kept { OnErr result (IsAsBefore (L.tells language.old) self.old self.new) }
         ensures unsent { OnErr result (out.new.items ≡ out.old.items) }
-        ensures language { (text : List ℕ) → (known : Insight) → L.tells language.old text known → L.tells language.new text known }
+        ensures language { Keeps (L.tells language.old) (L.tells language.new) }
     {
         match kind {
             Kind::Request(id, name) => {
@@ -136,7 +144,7 @@ impl Server {
             × (out.new.items ≡ out.old.items ++ frame (compact_text (response (id_view id.now) answer)))) }
         ensures kept { OnErr result (IsAsBefore (L.tells language.old) self.old self.new) }
         ensures unsent { OnErr result (out.new.items ≡ out.old.items) }
-        ensures language { (text : List ℕ) → (known : Insight) → L.tells language.old text known → L.tells language.new text known }
+        ensures language { Keeps (L.tells language.old) (L.tells language.new) }
     {
         let answer = answer(
             &mut self.documents,
@@ -168,9 +176,15 @@ impl Server {
         ensures kept { OnErr result (self.new ≡ self.old) }
         ensures unsent { OnErr result (out.new.items ≡ out.old.items) }
     {
-        if self.life == Life::Running {
-            hear(&mut self.documents, alloc, self.encoding, notice, params, out)?;
-        }
+        hear(
+            &mut self.documents,
+            alloc,
+            self.life,
+            self.encoding,
+            notice,
+            params,
+            out,
+        )?;
         Ok(self.life.flow(notice))
     }
 }

@@ -1,5 +1,5 @@
 // How columns are counted.
-ghost use Rattle.std.specs.Prelude.{◌≡◌, map, option_map};
+ghost use Rattle.std.specs.Prelude.{◌≡◌, map, Some, option_map};
 ghost use Rattle.serde_json.specs.Find.{as_str};
 ghost use Rattle.serde_json.specs.View.{view};
 ghost use Rattle.lsp_params.specs.Agreed.{is_utf8, offers_utf8, best_of, offered, agreed};
@@ -30,8 +30,18 @@ fn best_of(encodings: Option<&[Value]>) -> Encoding
     ensures { result ≡ best_of (option_map (λ items. map view items.now) encodings.entry) }
 {
     match encodings {
-        Some(encodings) if offers_utf8(encodings) => Encoding::Utf8,
-        _ => Encoding::Utf16,
+        Some(encodings) => best_among(encodings),
+        None => Encoding::Utf16,
+    }
+}
+
+fn best_among(encodings: &[Value]) -> Encoding
+    ensures { result ≡ best_of (Some (map view encodings.now)) }
+{
+    if offers_utf8(encodings) {
+        Encoding::Utf8
+    } else {
+        Encoding::Utf16
     }
 }
 

@@ -20,7 +20,7 @@ pub struct Opening<'a> {
 }
 
 /// The text that is opened, and `None` where the params do not say it.
-pub fn opening(params: &Value) -> Option<Opening<'_>>
+pub fn opening_of(params: &Value) -> Option<Opening<'_>>
     ensures { option_map opening_view result ≡ opening_of (view params.now) }
 {
     opening_in(params.get("textDocument")?)
@@ -36,7 +36,7 @@ fn opening_in(document: &Value) -> Option<Opening<'_>>
 }
 
 /// The document that is changed, and its version then.
-pub fn versioned(params: &Value) -> Option<(&str, i64)>
+pub fn versioned_of(params: &Value) -> Option<(&str, i64)>
     ensures { option_map versioned_view result ≡ versioned_of (view params.now) }
 {
     versioned_in(params.get("textDocument")?)
@@ -51,7 +51,7 @@ fn versioned_in(document: &Value) -> Option<(&str, i64)>
 }
 
 /// The changes of a document, and `None` where the params do not say them.
-pub fn changes(alloc: Global, params: &Value) -> Result<Option<Vec<Change>>, AllocError>
+pub fn changes_of(alloc: Global, params: &Value) -> Result<Option<Vec<Change>>, AllocError>
     ensures { IfOk result (λ o. option_map (λ changes. replacements changes.items) o ≡ changes_of (view params.now)) }
 {
     match list_in(params, "contentChanges") {
@@ -65,7 +65,7 @@ fn each_change(alloc: Global, items: &[Value]) -> Result<Option<Vec<Change>>, Al
 {
     let mut changes = Vec::new(alloc);
     for item in items {
-        match change(alloc, item)? {
+        match change_of(alloc, item)? {
             Some(change) => changes.push(change)?,
             None => return Ok(None),
         }
@@ -73,7 +73,7 @@ fn each_change(alloc: Global, items: &[Value]) -> Result<Option<Vec<Change>>, Al
     Ok(Some(changes))
 }
 
-fn change(alloc: Global, value: &Value) -> Result<Option<Change>, AllocError>
+fn change_of(alloc: Global, value: &Value) -> Result<Option<Change>, AllocError>
     ensures { IfOk result (λ o. option_map replacement o ≡ change_of (view value.now)) }
 {
     match any_range(value.get("range")) {

@@ -31,7 +31,7 @@ pub enum Ask {
 }
 
 /// What a request asks, and `None` where its params do not say it.
-pub fn ask(subject: Subject, params: &Value) -> Option<Ask>
+pub fn ask_of(subject: Subject, params: &Value) -> Option<Ask>
     ensures { result ≡ ask_of subject (view params.now) }
 {
     match subject {
@@ -43,7 +43,7 @@ pub fn ask(subject: Subject, params: &Value) -> Option<Ask>
 }
 
 /// The document that params name.
-pub fn uri(params: &Value) -> Option<&str>
+pub fn uri_of(params: &Value) -> Option<&str>
     ensures { option_map (λ uri. uri.now) result ≡ uri_of (view params.now) }
 {
     text_in(params.get("textDocument")?, "uri")

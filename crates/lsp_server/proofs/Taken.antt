@@ -1,0 +1,13 @@
+-- What messages say.
+use Rattle.std.proofs.Common.{◌≡◌, ◌⊎◌, inl, inr, ℕ, List, codes, Option, ap, ◌∙◌}
+use Rattle.serde_json.specs.Data.{Data}
+use Rattle.serde_json.specs.Find.{get}
+use Rattle.serde_json.specs.View.{view}
+use Rattle.lsp_requests.specs.declared.message.Message.{Message}
+use Rattle.lsp_requests.specs.Read.{kind_view, IsMessage}
+use Rattle.lsp_server.specs.Protocol.{Says}
+
+pub says_of : (content : List ℕ) (message : Message) (params : Option Data) → IsMessage content message →
+    params ≡ get (codes "params") (view message.value) → Says content (kind_view message.kind) params
+says_of content message params (inl json) is = inl (view message.value, json.0, json.1, is)
+says_of content message params (inr none) is = inr (none.0, none.1, is ∙ ap (get (codes "params")) none.2)
