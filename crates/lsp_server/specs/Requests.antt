@@ -42,8 +42,8 @@ abbrev pub IsPlain : Answer → Type 0
 IsPlain (Ok d) = has_float d ≡ false
 IsPlain (Err code) = Unit {0}
 
--- Documents and an answer: here the documents are as they were.
-pub record Is (before after : List Open) (is answer : Answer) : Type 0 where
+-- The documents stay as they are, and this is the answer.
+pub record Stays (before after : List Open) (is answer : Answer) : Type 0 where
   pub same : after ≡ before
   pub told : answer ≡ is
 
@@ -56,21 +56,21 @@ pub record IsOfInsight (tells : List ℕ → Insight → Type 0) (encoding : Enc
 
 -- what is asked of a document that is open, or not
 abbrev pub OfDocument : (List ℕ → Insight → Type 0) → Encoding → List Open → List Open → Option (ℕ × Open) → Ask → Answer → Type 0
-OfDocument tells encoding before after None ask answer = Is before after (Err InvalidParams) answer
+OfDocument tells encoding before after None ask answer = Stays before after (Err InvalidParams) answer
 OfDocument tells encoding before after (Some found) ask answer = IsOfInsight tells encoding before after found ask answer
 
 abbrev pub OfText : (List ℕ → Insight → Type 0) → Encoding → List Open → List Open → Option (List ℕ × Ask) → Answer → Type 0
-OfText tells encoding before after None answer = Is before after (Err InvalidParams) answer
+OfText tells encoding before after None answer = Stays before after (Err InvalidParams) answer
 OfText tells encoding before after (Some asked) answer =
     OfDocument tells encoding before after (first_of (is_of asked.0) before) asked.1 answer
 
 -- while the server runs
 abbrev pub OfRunning : (List ℕ → Insight → Type 0) → Encoding → List Open → List Open → Method → Option Data → Answer → Type 0
-OfRunning tells encoding before after Initialize params answer = Is before after (Err InvalidRequest) answer
-OfRunning tells encoding before after Shutdown params answer = Is before after (Ok null) answer
+OfRunning tells encoding before after Initialize params answer = Stays before after (Err InvalidRequest) answer
+OfRunning tells encoding before after Shutdown params answer = Stays before after (Ok null) answer
 OfRunning tells encoding before after (About subject) params answer =
     OfText tells encoding before after (option_and_then (asked_of subject) params) answer
-OfRunning tells encoding before after Unknown params answer = Is before after (Err MethodNotFound) answer
+OfRunning tells encoding before after Unknown params answer = Stays before after (Err MethodNotFound) answer
 
 -- before it runs
 abbrev pub fresh_answer : Method → Option Data → Answer
@@ -79,9 +79,9 @@ fresh_answer method params = Err NotInitialized
 
 -- The answer to a request, and the documents then.
 abbrev pub Answers : (List ℕ → Insight → Type 0) → Life → Encoding → List Open → List Open → Method → Option Data → Answer → Type 0
-Answers tells Fresh encoding before after method params answer = Is before after (fresh_answer method params) answer
+Answers tells Fresh encoding before after method params answer = Stays before after (fresh_answer method params) answer
 Answers tells Running encoding before after method params answer = OfRunning tells encoding before after method params answer
-Answers tells ShutDown encoding before after method params answer = Is before after (Err InvalidRequest) answer
+Answers tells ShutDown encoding before after method params answer = Stays before after (Err InvalidRequest) answer
 
 -- A request is answered, and the state is this then.
 pub record IsAnswered (tells : List ℕ → Insight → Type 0) (before after : State) (method : Method) (params : Option Data) (answer : Answer) : Type 0 where
