@@ -26,10 +26,10 @@ pub fn result_value(
     ensures value { IfOk result (λ value. view value ≡ result_of encoding document.now.text uri.now insight.now ask) }
     ensures plain { IfOk result (λ value. has_float (view value) ≡ false) }
 {
-    result(alloc, encoding, document, uri, insight, ask)
+    value_of(alloc, encoding, document, uri, insight, ask)
 }
 
-fn result(
+fn value_of(
     alloc: Global,
     encoding: Encoding,
     document: &Document,

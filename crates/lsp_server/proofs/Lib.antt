@@ -1,4 +1,4 @@
-mod Places
-mod Kept
-mod Taken
+pub mod Places
+pub mod Kept
+pub mod Taken
 mod Computed

@@ -91,6 +91,7 @@ impl OpenDocument {
     }
 
     /// Asks the language what it tells of the text, unless it is known.
+    #[tactic(auto, using(crate::proofs::Kept::learnt_same))]
     pub fn learn<L: Language>(&mut self, alloc: Global, language: &mut L) -> Result<(), AllocError>
         ensures learnt { OnOk result ((insight : Insight)
             × IsLearnt (L.tells language.old) self.old self.old.known insight × (self.new ≡ learnt self.old insight)) }

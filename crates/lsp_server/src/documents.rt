@@ -24,6 +24,7 @@ use serde_json::Value;
 use std::alloc::{AllocError, Global};
 
 /// The place of the document of this name.
+#[tactic(auto, using(crate::proofs::Places::found_here, crate::proofs::Places::not_here, crate::proofs::Places::nowhere))]
 pub fn place_of(documents: &[OpenDocument], uri: &str) -> Option<usize>
     ensures first { MatchOption result (first_of (is_of uri.now) documents.now ≡ None) (IsFirst (is_of uri.now) documents.now) }
     ensures within { IfSome result (λ place. place < length documents.now) }
@@ -37,6 +38,7 @@ pub fn place_of(documents: &[OpenDocument], uri: &str) -> Option<usize>
 }
 
 /// The place of the first document whose diagnostics are not published yet.
+#[tactic(auto, using(crate::proofs::Places::found_here, crate::proofs::Places::not_here, crate::proofs::Places::nowhere))]
 pub fn unpublished(documents: &[OpenDocument]) -> Option<usize>
     ensures first { MatchOption result (first_of is_unpublished documents.now ≡ None) (IsFirst is_unpublished documents.now) }
     ensures within { IfSome result (λ place. place < length documents.now) }
@@ -50,6 +52,7 @@ pub fn unpublished(documents: &[OpenDocument]) -> Option<usize>
 }
 
 /// What is answered where this is asked of a document, which is known then.
+#[tactic(auto, using(crate::proofs::Kept::of_first))]
 pub fn text_answer<L: Language>(
     documents: &mut Vec<OpenDocument>,
     alloc: Global,
@@ -73,6 +76,7 @@ pub fn text_answer<L: Language>(
     }
 }
 
+#[tactic(auto, using(crate::proofs::Kept::is_read, crate::proofs::Kept::learns))]
 fn answer_at<L: Language>(
     documents: &mut Vec<OpenDocument>,
     place: usize,
@@ -93,6 +97,7 @@ fn answer_at<L: Language>(
 }
 
 /// Opens a document, in the place of one that is open by its name.
+#[tactic(auto, using(crate::proofs::Kept::opened_none, crate::proofs::Kept::opened_there))]
 pub fn open_document(
     documents: &mut Vec<OpenDocument>,
     alloc: Global,
@@ -114,6 +119,7 @@ pub fn open_document(
 }
 
 /// Changes a document, where it is open.
+#[tactic(auto, using(crate::proofs::Kept::changed_none, crate::proofs::Kept::changed_there))]
 pub fn change_document(
     documents: &mut Vec<OpenDocument>,
     alloc: Global,
@@ -132,6 +138,7 @@ pub fn change_document(
 }
 
 /// Closes a document, where it is open, and publishes that nothing is left of its diagnostics.
+#[tactic(auto, using(crate::proofs::Kept::closed_none, crate::proofs::Kept::closed_there, crate::proofs::Taken::one_sent, crate::proofs::Taken::none_sent))]
 pub fn close_document(
     documents: &mut Vec<OpenDocument>,
     alloc: Global,
@@ -151,6 +158,7 @@ pub fn close_document(
 }
 
 /// Publishes the diagnostics of a document, which is known then.
+#[tactic(auto, using(crate::proofs::Kept::is_read, crate::proofs::Kept::learns, crate::proofs::Taken::one_sent))]
 pub fn publish_at<L: Language>(
     documents: &mut Vec<OpenDocument>,
     place: usize,

@@ -16,6 +16,7 @@ use serde_json::Value;
 use std::alloc::{AllocError, Global};
 
 /// Opens, changes or closes a document, while the server runs. Params that do not say it are passed over.
+#[tactic(auto, using(crate::proofs::Taken::none_sent))]
 pub fn hear(
     documents: &mut Vec<OpenDocument>,
     alloc: Global,
@@ -38,6 +39,7 @@ pub fn hear(
     }
 }
 
+#[tactic(auto, using(crate::proofs::Taken::none_sent))]
 fn hear_running(
     documents: &mut Vec<OpenDocument>,
     alloc: Global,
@@ -103,6 +105,7 @@ fn hear_change(
     }
 }
 
+#[tactic(auto, using(crate::proofs::Taken::none_sent))]
 fn hear_close(
     documents: &mut Vec<OpenDocument>,
     alloc: Global,

@@ -55,6 +55,7 @@ impl Server {
 
     /// Takes one message, which is the content of a frame, and appends what is sent for it as frames.
     /// Without memory nothing is sent, and the server can take the next message.
+    #[tactic(auto, using(crate::proofs::Taken::says_of))]
     pub fn take<L: Language>(
         &mut self,
         alloc: Global,
@@ -73,6 +74,7 @@ impl Server {
 
     /// Publishes the diagnostics of the first document for which they are not published yet, if there is
     /// one, and tells whether there was. Without memory nothing is sent.
+    #[tactic(auto, using(crate::proofs::Taken::none_sent))]
     pub fn settle<L: Language>(
         &mut self,
         alloc: Global,
@@ -101,6 +103,7 @@ impl Server {
     }
 
     // Does what a message asks.
+    #[tactic(auto, using(crate::proofs::Taken::one_sent, crate::proofs::Taken::none_sent))]
     fn act<L: Language>(
         &mut self,
         alloc: Global,
