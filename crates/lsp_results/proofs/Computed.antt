@@ -10,6 +10,4 @@ examples_hold = record {
   at_start = refl;
   at_end = refl;
   in_nothing = refl;
-  title = refl;
-  emptied = refl;
 }

@@ -1,2 +1,3 @@
 pub mod Plain
+pub mod Listed
 mod Computed

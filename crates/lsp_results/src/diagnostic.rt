@@ -15,6 +15,7 @@ use serde_json::{Map, Value, json, push, put};
 use std::alloc::{AllocError, Global};
 
 /// What is published of a version of a document.
+#[tactic(auto, using(crate::proofs::Plain::published_plain))]
 pub fn published_value(
     alloc: Global,
     uri: &str,
@@ -24,17 +25,6 @@ pub fn published_value(
     requires { has_float (view diagnostics) ≡ false }
     ensures value { IfOk result (λ value. view value ≡ published_json uri.now version (view diagnostics)) }
     ensures plain { IfOk result (λ value. has_float (view value) ≡ false) }
-{
-    published(alloc, uri, version, diagnostics)
-}
-
-fn published(
-    alloc: Global,
-    uri: &str,
-    version: i64,
-    diagnostics: Value,
-) -> Result<Value, AllocError>
-    ensures { IfOk result (λ value. view value ≡ published_json uri.now version (view diagnostics)) }
 {
     json!(in alloc; {"diagnostics": diagnostics, "uri": uri, "version": version})
 }

@@ -40,8 +40,23 @@ fn session(alloc: Global, lines: &[u8]) -> Result<Vec<u8>, AllocError> {
         if line.is_empty() {
             settle(alloc, &mut server, &mut language, &mut out)?;
         } else if let Flow::End(status) = server.take(alloc, &mut language, line, &mut out)? {
-            out.push(b'0' + status)?;
+            out.push(status.saturating_add(b'0'))?;
         }
     }
     Ok(out)
+}
+
+// Publishes what is not published yet, of as many documents as are open.
+fn settle(
+    alloc: Global,
+    server: &mut Server,
+    language: &mut FirstWord,
+    out: &mut Vec<u8>,
+) -> Result<(), AllocError> {
+    for _ in 0..8 {
+        if !server.settle(alloc, language, out)? {
+            return Ok(());
+        }
+    }
+    Ok(())
 }
