@@ -8,4 +8,4 @@ loop-edit-preserved c =
     c.loop-edit-test.true c.edit-item.is c.in_ok-push.ensures.ok c.in_ok-edit_value.ensures c.loop-edit.invariant
 
 pub returns : goal.returns
-returns c = all_made (edit_json c.args.encoding c.args.document.now.text) c.loop-edit.items.items c.args.edits.now c.loop-edit.edit-index c.loop-edit-test.false c.loop-edit.invariant
+returns c = all_made (edit_json c.args.encoding c.args.document.now.text) c.loop-edit.items c.args.edits.now c.loop-edit.edit-index c.loop-edit-test.false c.loop-edit.invariant

@@ -8,4 +8,4 @@ loop-diagnostic-preserved c =
     c.loop-diagnostic-test.true c.diagnostic-item.is c.in_ok-push.ensures.ok c.in_ok-diagnostic_value.ensures c.loop-diagnostic.invariant
 
 pub returns : goal.returns
-returns c = all_made (diagnostic_json c.args.encoding c.args.document.now.text c.args.uri.now) c.loop-diagnostic.items.items c.args.diagnostics.now c.loop-diagnostic.diagnostic-index c.loop-diagnostic-test.false c.loop-diagnostic.invariant
+returns c = all_made (diagnostic_json c.args.encoding c.args.document.now.text c.args.uri.now) c.loop-diagnostic.items c.args.diagnostics.now c.loop-diagnostic.diagnostic-index c.loop-diagnostic-test.false c.loop-diagnostic.invariant

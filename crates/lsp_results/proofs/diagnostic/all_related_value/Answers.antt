@@ -8,4 +8,4 @@ loop-one-preserved c =
     c.loop-one-test.true c.one-item.is c.in_ok-push.ensures.ok c.in_ok-related_value.ensures c.loop-one.invariant
 
 pub returns : goal.returns
-returns c = all_made (related_json c.args.encoding c.args.document.now.text c.args.uri.now) c.loop-one.items.items c.args.related.now c.loop-one.one-index c.loop-one-test.false c.loop-one.invariant
+returns c = all_made (related_json c.args.encoding c.args.document.now.text c.args.uri.now) c.loop-one.items c.args.related.now c.loop-one.one-index c.loop-one-test.false c.loop-one.invariant

@@ -8,4 +8,4 @@ loop-lens-preserved c =
     c.loop-lens-test.true c.lens-item.is c.in_ok-push.ensures.ok c.in_ok-lens_value.ensures c.loop-lens.invariant
 
 pub returns : goal.returns
-returns c = all_made (lens_json c.args.encoding c.args.document.now.text) c.loop-lens.items.items c.args.lenses.now c.loop-lens.lens-index c.loop-lens-test.false c.loop-lens.invariant
+returns c = all_made (lens_json c.args.encoding c.args.document.now.text) c.loop-lens.items c.args.lenses.now c.loop-lens.lens-index c.loop-lens-test.false c.loop-lens.invariant
