@@ -52,3 +52,8 @@ learns tells old new place item insight within read is kept =
 
 pub learnt_same : (document : Open) (insight : Insight) → document.known ≡ Some insight → document ≡ learnt document insight
 learnt_same document insight known = ap (λ (k : Option Insight). record { uri = document.uri; content = document.content; known = k; published = document.published }) known
+
+pub learnt_already : (tells : List ℕ → Insight → Type 0) (document : Open) (insight : Insight) → document.known ≡ Some insight →
+    (known : Insight) × IsLearnt tells document document.known known × (document ≡ learnt document known)
+learnt_already tells document insight known =
+    (insight, subst (λ (k : Option Insight). IsLearnt tells document k insight) (sym known) refl, learnt_same document insight known)

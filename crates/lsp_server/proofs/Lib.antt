@@ -1,4 +1,5 @@
 pub mod Places
 pub mod Kept
 pub mod Taken
+pub mod Answered
 mod Computed

@@ -125,16 +125,30 @@ impl OpenDocument {
         ensures plain { IfOk result (λ value. has_float (view value) ≡ false) }
     {
         match &self.known {
-            Some(insight) => result_value(
-                alloc,
-                encoding,
-                &self.document,
-                self.uri.as_str(),
-                insight,
-                ask,
-            ),
+            Some(insight) => self.result_by(alloc, encoding, insight, ask),
             None => unreachable!(),
         }
+    }
+
+    // What is answered by what is known.
+    fn result_by(
+        &self,
+        alloc: Global,
+        encoding: Encoding,
+        insight: &Insight,
+        ask: Ask,
+    ) -> Result<Value, AllocError>
+        ensures value { IfOk result (λ value. view value ≡ result_of encoding self.now.content.text self.now.uri insight.now ask) }
+        ensures plain { IfOk result (λ value. has_float (view value) ≡ false) }
+    {
+        result_value(
+            alloc,
+            encoding,
+            &self.document,
+            self.uri.as_str(),
+            insight,
+            ask,
+        )
     }
 
     /// What is published.
@@ -145,13 +159,13 @@ impl OpenDocument {
         ensures plain { IfOk result (λ value. has_float (view value) ≡ false) }
     {
         match &self.known {
-            Some(insight) => self.publication_of(alloc, encoding, insight),
+            Some(insight) => self.publication_by(alloc, encoding, insight),
             None => unreachable!(),
         }
     }
 
     // What is published by what is known.
-    fn publication_of(
+    fn publication_by(
         &self,
         alloc: Global,
         encoding: Encoding,
