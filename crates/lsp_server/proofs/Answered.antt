@@ -78,7 +78,7 @@ published_at tells encoding documents place document new here again last params 
         kept = set-set documents place new last ∙ ap (slice_set documents place) last_is;
         sends = refl;
       },
-      one_sent old out _ sends ∙ ap (λ (d : Data). old ++ frames (publish d ∷ [])) params_is,
+      one_sent old out (publish (view params)) sends ∙ ap (λ (d : Data). old ++ frames (publish d ∷ [])) params_is,
     )
 
 pub on_err : {T E : Type 0} (r : Result T E) {P : Type 0} → P → OnErr r P

@@ -13,7 +13,7 @@ returns-in_err-send_response-clause-kept g c =
 pub returns-clause-answered : goal.returns-clause-answered
 returns-clause-answered g c = (
   answer_view c.in_ok-answer.answer,
-  is_answered (g.L.Language.tells c.args.language.now) _ c.args.self.now c.after.result c.encoding_after.result c.answer.new.documents.items c.args.method _ _
-      c.self.view_is c.in_ok-answer.ensures.answers c.after.ensures c.encoding_after.ensures,
+  is_answered (g.L.Language.tells c.args.language.now) _ c.args.self.now c.after-self-inside.result c.encoding_after-self-inside.result c.answer.new.documents.items c.args.method _ _
+      c.self.view_is c.in_ok-answer.ensures.answers c.after-self-inside.ensures c.encoding_after-self-inside.ensures,
   c.in_ok-send_response.ensures.sent,
 )
