@@ -10,7 +10,8 @@ use Rattle.lsp_params.specs.declared.asking.Subject.TheVariants.{Hover, Lenses, 
 use Rattle.lsp_positions.specs.declared.position.Encoding.TheVariants.{Utf16, Utf8}
 
 abbrev place : ℕ → ℕ → Data
-place line character = object (member (codes "character") (number (unsigned character)) (member (codes "line") (number (unsigned line)) no_members))
+place line character =
+    object (member (codes "character") (number (unsigned character)) (member (codes "line") (number (unsigned line)) no_members))
 
 abbrev file : Members → Data
 file others = object (member (codes "uri") (string (codes "file:///a")) others)
@@ -34,7 +35,9 @@ two_changes =
     (item (object (member (codes "text") (string (codes "y")) no_members)) no_items))) no_members)
 
 abbrev offers : Data → Data
-offers d = object (member (codes "capabilities") (object (member (codes "general") (object (member (codes "positionEncodings") d no_members)) no_members)) no_members)
+offers d =
+    object (member (codes "capabilities")
+    (object (member (codes "general") (object (member (codes "positionEncodings") d no_members)) no_members)) no_members)
 
 pub record Examples : Type 0 where
   pub hover : asked_of Hover at_place ≡ Some (codes "file:///a", a.Hover (record { line = 1; character = 2 }))
@@ -42,10 +45,15 @@ pub record Examples : Type 0 where
   pub no_document : asked_of Lenses (object no_members) ≡ None
   pub no_range : asked_of Hints half_range ≡ None
   pub opening : opening_of (object (member (codes "textDocument")
-      (object (member (codes "text") (string (codes "t")) (member (codes "uri") (string (codes "u")) (member (codes "version") (number (unsigned 3)) no_members)))) no_members))
+      (object (member (codes "text") (string (codes "t"))
+      (member (codes "uri") (string (codes "u")) (member (codes "version") (number (unsigned 3)) no_members)))) no_members))
       ≡ Some (record { uri = codes "u"; version = pos 3; text = codes "t" })
   pub changes : changes_of two_changes
-      ≡ Some (record { range = Some (record { start = record { line = 0; character = 0 }; end = record { line = 0; character = 1 } }); text = codes "x" }
+      ≡ Some (record {
+        range = Some
+            (record { start = record { line = 0; character = 0 }; end = record { line = 0; character = 1 } });
+        text = codes "x";
+      }
       ∷ record { range = None; text = codes "y" } ∷ [])
   pub no_version : versioned_of (object in_file) ≡ None
   pub offered : agreed (Some (offers (array (item (string (codes "utf-16")) (item (string (codes "utf-8")) no_items))))) ≡ Utf8

@@ -13,7 +13,8 @@ meets from to action = nat_le action.span.start to && nat_le from (end_of action
 
 abbrev pub edit_json : Encoding → List ℕ → Edit → Data
 edit_json encoding text edit =
-    object (member (codes "newText") (string (string_bytes edit.text)) (member (codes "range") (span_json encoding text edit.span) no_members))
+    object (member (codes "newText") (string (string_bytes edit.text))
+    (member (codes "range") (span_json encoding text edit.span) no_members))
 
 abbrev pub edits_json : Encoding → List ℕ → List Edit → Data
 edits_json encoding text edits = list_json (map (edit_json encoding text) edits)

@@ -27,4 +27,5 @@ server_json = object (member (codes "name") (string (codes "explain")) no_member
 
 -- The result of `initialize`.
 abbrev pub initialized_json : Encoding → Data
-initialized_json encoding = object (member (codes "capabilities") (capabilities_json encoding) (member (codes "serverInfo") server_json no_members))
+initialized_json encoding =
+    object (member (codes "capabilities") (capabilities_json encoding) (member (codes "serverInfo") server_json no_members))

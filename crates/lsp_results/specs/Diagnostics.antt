@@ -31,7 +31,8 @@ abbrev pub diagnostic_members : Encoding → List ℕ → List ℕ → Diagnosti
 diagnostic_members encoding text uri diagnostic =
     member (codes "message") (string (string_bytes diagnostic.message)) (member (codes "range") (span_json encoding text diagnostic.span)
     (member (codes "relatedInformation") (all_related_json encoding text uri diagnostic.related.items)
-    (member (codes "severity") (natural (severity_of diagnostic.severity)) (member (codes "source") (string (codes "explain")) no_members))))
+    (member (codes "severity") (natural (severity_of diagnostic.severity))
+    (member (codes "source") (string (codes "explain")) no_members))))
 
 -- with the code, where it has one
 abbrev pub with_code : Option (List ℕ) → Members → Members

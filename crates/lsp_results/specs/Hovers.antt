@@ -20,7 +20,8 @@ markup_json text = object (member (codes "kind") (string (codes "markdown")) (me
 
 abbrev pub hover_json : Encoding → List ℕ → Hover → Data
 hover_json encoding text hover =
-    object (member (codes "contents") (markup_json (string_bytes hover.text)) (member (codes "range") (span_json encoding text hover.span) no_members))
+    object (member (codes "contents") (markup_json (string_bytes hover.text))
+    (member (codes "range") (span_json encoding text hover.span) no_members))
 
 abbrev pub hover_or_null : Encoding → List ℕ → Option Hover → Data
 hover_or_null encoding text None = null

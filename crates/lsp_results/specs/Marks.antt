@@ -13,7 +13,8 @@ title_json title = object (member (codes "command") (string []) (member (codes "
 
 abbrev pub lens_json : Encoding → List ℕ → Lens → Data
 lens_json encoding text lens =
-    object (member (codes "command") (title_json (string_bytes lens.title)) (member (codes "range") (span_json encoding text lens.span) no_members))
+    object (member (codes "command") (title_json (string_bytes lens.title))
+    (member (codes "range") (span_json encoding text lens.span) no_members))
 
 -- All lenses of a text.
 abbrev pub lenses_json : Encoding → List ℕ → List Lens → Data
@@ -25,7 +26,8 @@ is_between from to hint = nat_le from hint.offset && nat_le hint.offset to
 
 abbrev pub hint_json : Encoding → List ℕ → Hint → Data
 hint_json encoding text hint =
-    object (member (codes "label") (string (string_bytes hint.label)) (member (codes "position") (place_json encoding text hint.offset) no_members))
+    object (member (codes "label") (string (string_bytes hint.label))
+    (member (codes "position") (place_json encoding text hint.offset) no_members))
 
 -- The hints that stand between two places.
 abbrev pub hints_json : Encoding → List ℕ → ℕ → ℕ → List Hint → Data

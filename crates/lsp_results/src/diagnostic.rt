@@ -109,7 +109,8 @@ fn put_code(
     alloc: Global,
     code: &Option<String>,
 ) -> Result<(), AllocError>
-    ensures { OnOk result (members_view members.new.entries ≡ with_code (option_map string_bytes code.now) (members_view members.old.entries)) }
+    ensures { OnOk result (members_view members.new.entries
+        ≡ with_code (option_map string_bytes code.now) (members_view members.old.entries)) }
 {
     match code {
         Some(code) => put_text(members, alloc, "code", code.as_str()),

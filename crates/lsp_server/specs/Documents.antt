@@ -1,5 +1,6 @@
 -- Open documents.
-use Rattle.std.specs.Prelude.{ℕ, suc, ℤ, ◌≡◌, ◌⊎◌, Bool, true, false, not, cond, List, [], ◌∷◌, ◌++◌, Option, None, Some, option_map, slice_get, slice_set}
+use Rattle.std.specs.Prelude.{ℕ, suc, ℤ, ◌≡◌, ◌⊎◌, Bool, true, false, not, cond, List, [], ◌∷◌, ◌++◌, Option, None, Some, option_map}
+use Rattle.std.specs.Prelude.{slice_get, slice_set}
 use Rattle.std.specs.List.{remove}
 use Rattle.std.specs.Str.{bytes_eq}
 use Rattle.lsp_positions.specs.declared.position.Encoding.{Encoding}

@@ -27,7 +27,8 @@ Says content kind params =
     ⊎ (((d : Data) → ¬ (IsJson content d)) × (kind ≡ Malformed ParseError) × (params ≡ None))
 
 -- Each request has one response, which has its id.
-pub record IsRequested (tells : List ℕ → Insight → Type 0) (before after : State) (id : Id) (name : List ℕ) (params : Option Data) (sent : List Data) : Type 0 where
+pub record IsRequested (tells : List ℕ → Insight → Type 0) (before after : State) (id : Id)
+    (name : List ℕ) (params : Option Data) (sent : List Data) : Type 0 where
   pub answer : Answer
   pub answered : IsAnswered tells before after (method_of name) params answer
   pub one : sent ≡ response id answer ∷ []
@@ -50,21 +51,24 @@ flow_of life (Notification name) = flow_by life (notice_of name)
 flow_of life kind = GoOn
 
 -- What a message does: the state then, what is sent behind what was sent before, and whether the server goes on.
-pub record IsActed (tells : List ℕ → Insight → Type 0) (before after : State) (kind : Kind) (params : Option Data) (old new : List ℕ) (flow : Flow) : Type 0 where
+pub record IsActed (tells : List ℕ → Insight → Type 0) (before after : State) (kind : Kind)
+    (params : Option Data) (old new : List ℕ) (flow : Flow) : Type 0 where
   pub sent : List Data
   pub takes : Takes tells before after kind params sent
   pub sends : new ≡ old ++ frames sent
   pub flows : flow ≡ flow_of before.life kind
 
 -- A content is taken as the message that it is.
-pub record IsTaken (tells : List ℕ → Insight → Type 0) (content : List ℕ) (before after : State) (old new : List ℕ) (flow : Flow) : Type 0 where
+pub record IsTaken (tells : List ℕ → Insight → Type 0) (content : List ℕ) (before after : State)
+    (old new : List ℕ) (flow : Flow) : Type 0 where
   pub kind : Kind
   pub params : Option Data
   pub says : Says content kind params
   pub acts : IsActed tells before after kind params old new flow
 
 -- The diagnostics of a document are published, by what is known of it.
-pub record IsPublished (tells : List ℕ → Insight → Type 0) (encoding : Encoding) (before after : List Open) (found : ℕ × Open) (sent : List Data) : Type 0 where
+pub record IsPublished (tells : List ℕ → Insight → Type 0) (encoding : Encoding)
+    (before after : List Open) (found : ℕ × Open) (sent : List Data) : Type 0 where
   pub insight : Insight
   pub is : IsLearnt tells found.1 found.1.known insight
   pub kept : after ≡ slice_set before found.0 (published (learnt found.1 insight))

@@ -48,7 +48,8 @@ pub record Stays (before after : List Open) (is answer : Answer) : Type 0 where
   pub told : answer ≡ is
 
 -- An answer by what is known of a document, which is known from then on.
-pub record IsOfInsight (tells : List ℕ → Insight → Type 0) (encoding : Encoding) (before after : List Open) (found : ℕ × Open) (ask : Ask) (answer : Answer) : Type 0 where
+pub record IsOfInsight (tells : List ℕ → Insight → Type 0) (encoding : Encoding) (before after : List Open)
+    (found : ℕ × Open) (ask : Ask) (answer : Answer) : Type 0 where
   pub insight : Insight
   pub is : IsLearnt tells found.1 found.1.known insight
   pub kept : after ≡ slice_set before found.0 (learnt found.1 insight)
@@ -84,7 +85,8 @@ Answers tells Running encoding before after method params answer = OfRunning tel
 Answers tells ShutDown encoding before after method params answer = Stays before after (Err InvalidRequest) answer
 
 -- A request is answered, and the state is this then.
-pub record IsAnswered (tells : List ℕ → Insight → Type 0) (before after : State) (method : Method) (params : Option Data) (answer : Answer) : Type 0 where
+pub record IsAnswered (tells : List ℕ → Insight → Type 0) (before after : State) (method : Method)
+    (params : Option Data) (answer : Answer) : Type 0 where
   pub answers : Answers tells before.life before.encoding before.documents after.documents method params answer
   pub life : after.life ≡ life_after before.life method
   pub encoding : after.encoding ≡ encoding_after before.life before.encoding method params

@@ -47,7 +47,8 @@ fn fresh_answer(
     method: Method,
     params: Option<&Value>,
 ) -> Result<Result<Value, ErrorCode>, AllocError>
-    ensures answers { IfOk result (λ answer. answer_view answer ≡ fresh_answer method (option_map (λ params. view params.now) params.entry)) }
+    ensures answers { IfOk result
+        (λ answer. answer_view answer ≡ fresh_answer method (option_map (λ params. view params.now) params.entry)) }
     ensures plain { IfOk result (λ answer. IsPlain (answer_view answer)) }
 {
     match method {

@@ -76,7 +76,8 @@ impl OpenDocument {
         version: i64,
         changes: &[Change],
     ) -> Result<(), AllocError>
-        ensures changed { OnOk result (self.new ≡ changed_to self.old version (all_changed encoding self.old.content.text (replacements changes.now))) }
+        ensures changed { OnOk result
+            (self.new ≡ changed_to self.old version (all_changed encoding self.old.content.text (replacements changes.now))) }
         ensures kept { OnErr result (self.new ≡ self.old) }
     {
         match self.document.change(alloc, encoding, version, changes) {

@@ -1,5 +1,6 @@
 // All open documents.
-ghost use Rattle.std.specs.Prelude.{◌≡◌, ◌<◌, ◌++◌, ℕ, List, Some, None, length, IfOk, OnOk, OnErr, IfSome, MatchOption, slice_get, false, Ok};
+ghost use Rattle.std.specs.Prelude.{◌≡◌, ◌<◌, ◌++◌, ℕ, List, Some, None, length, IfOk, OnOk, OnErr, IfSome, MatchOption, slice_get, false};
+ghost use Rattle.std.specs.Prelude.{Ok};
 ghost use Rattle.serde_json.specs.Data.{Data};
 ghost use Rattle.serde_json.specs.View.{view};
 ghost use Rattle.serde_json.specs.Written.{has_float};

@@ -115,7 +115,8 @@ fn hear_close(
     ensures heard { OnOk result (documents.new.items
         ≡ closed_by documents.old.items (option_and_then uri_of (option_map (λ params. view params.now) params.entry))) }
     ensures sent { OnOk result (out.new.items
-        ≡ out.old.items ++ frames (emptied_by documents.old.items (option_and_then uri_of (option_map (λ params. view params.now) params.entry)))) }
+        ≡ out.old.items ++ frames
+        (emptied_by documents.old.items (option_and_then uri_of (option_map (λ params. view params.now) params.entry)))) }
     ensures kept { OnErr result (documents.new.items ≡ documents.old.items) }
     ensures unsent { OnErr result (out.new.items ≡ out.old.items) }
 {

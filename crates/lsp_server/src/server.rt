@@ -174,7 +174,8 @@ impl Server {
     ) -> Result<Flow, AllocError>
         ensures heard { OnOk result (self.new ≡ heard self.old notice (option_map (λ params. view params.now) params.entry)) }
         ensures sent { OnOk result (out.new.items
-            ≡ out.old.items ++ frames (sent_in self.old.life self.old.documents notice (option_map (λ params. view params.now) params.entry))) }
+            ≡ out.old.items ++ frames
+            (sent_in self.old.life self.old.documents notice (option_map (λ params. view params.now) params.entry))) }
         ensures flow { IfOk result (λ flow. flow ≡ flow_by self.old.life notice) }
         ensures kept { OnErr result (self.new ≡ self.old) }
         ensures unsent { OnErr result (out.new.items ≡ out.old.items) }
