@@ -5,4 +5,5 @@ pub mod Documents
 pub mod Requests
 pub mod Notices
 pub mod Protocol
+pub mod Told
 pub mod Example
