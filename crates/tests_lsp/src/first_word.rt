@@ -1,6 +1,4 @@
 // A language for tests, which knows the first word of a text.
-ghost use Rattle.std.specs.Prelude.{◌≤◌, length};
-
 use lsp_language::{
     Action, Diagnostic, Edit, Hint, Hover, Insight, Language, Lens, Related, Severity, Span,
 };
@@ -29,9 +27,7 @@ impl Language for FirstWord {
 }
 
 // Where the first word ends.
-fn word_end(text: &[u8]) -> usize
-    ensures { result ≤ length text.now }
-{
+fn word_end(text: &[u8]) -> usize {
     let mut end = 0;
     for byte in text {
         if *byte == b' ' || *byte == b'\n' {
