@@ -28,14 +28,12 @@ impl Language for FirstWord {
 
 // Where the first word ends.
 fn word_end(text: &[u8]) -> usize {
-    let mut end = 0;
-    for byte in text {
-        if *byte == b' ' || *byte == b'\n' {
-            return end;
+    for place in 0..text.len() {
+        if text[place] == b' ' || text[place] == b'\n' {
+            return place;
         }
-        end += 1;
     }
-    end
+    text.len()
 }
 
 fn diagnostics(alloc: Global, span: Span) -> Result<Vec<Diagnostic>, AllocError> {
