@@ -1,0 +1,4 @@
+pub mod Known
+pub mod Runs
+pub mod Keep
+pub mod SameRuns

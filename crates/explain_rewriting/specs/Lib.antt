@@ -1,0 +1,4 @@
+pub mod Built
+pub mod Scope
+pub mod Same
+pub mod Rewriting

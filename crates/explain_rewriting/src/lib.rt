@@ -1,0 +1,4 @@
+//! Programs in which single expressions are rewritten.
+#![tactic(auto)]
+
+pub mod laws;
