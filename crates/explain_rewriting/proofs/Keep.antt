@@ -22,21 +22,21 @@ abbrev pub AreRelated : Relation → Type 0 → Asked → Calls → Calls → Ty
 AreRelated R W asked c d = (f : Text) (vs : List Value) → (W → asked f vs) → R Value false (c f vs) (d f vs)
 
 -- what the change puts in place of an expression runs so, in the sense of a relation
-abbrev pub PutsKeep : Relation → Type 0 → Env → Change → Calls → Calls → Type 0
-PutsKeep R W start C c d =
-    (S : Scope) (e other : t.Term) (env : Env) → C.instead S e ≡ Some other → Known W start S env → R Value true (walk c e env) (walk d other env)
+abbrev pub PutsKeep : Relation → Type 0 → Env → Prog → Change → Calls → Calls → Type 0
+PutsKeep R W start P C c d =
+    (S : Scope) (e other : t.Term) (env : Env) → C.instead P S e ≡ Some other → Known W start S env → R Value true (walk c e env) (walk d other env)
 
 variable_same : (c d : Calls) (e : t.Term) (env : Env) (x : Text) → variable e ≡ Some x → walk c e env ≡ walk d e env
 variable_same c d (t.Var p y) env x q = refl
 variable_same c d (t.Typed p a A) env x q = variable_same c d a env x q
 variable_same c d _ env x q = absurd (cc)
 
-module _ (R : Relation) (closed : IsClosed R) (W : Type 0) (P : Prog) (C : Change) (c d : Calls) (asked : Asked) (calls : AreRelated R W asked c d) (start : Env) (puts : PutsKeep R W start C c d) where
+module _ (R : Relation) (closed : IsClosed R) (W : Type 0) (P : Prog) (C : Change) (c d : Calls) (asked : Asked) (calls : AreRelated R W asked c d) (start : Env) (puts : PutsKeep R W start P C c d) where
   -- what is put, or else the expression with its parts rewritten
   placed : (e : t.Term) (S : Scope) (env : Env) → Known W start S env → R Value (surely_inside P C S e) (walk c e env) (walk d (inside P C S e) env) → R Value (surely P C S e) (walk c e env) (walk d (rewritten P C S e) env)
-  placed e S env k h = by (C.instead S e) refl
+  placed e S env k h = by (C.instead P S e) refl
     where
-      by : (o : Option t.Term) → C.instead S e ≡ o → R Value (is_some o || surely_inside P C S e) (walk c e env) (walk d (unwrap_or o (inside P C S e)) env)
+      by : (o : Option t.Term) → C.instead P S e ≡ o → R Value (is_some o || surely_inside P C S e) (walk c e env) (walk d (unwrap_or o (inside P C S e)) env)
       by None is = h
       by (Some other) is = puts S e other env is k
 
@@ -141,7 +141,7 @@ find_rewritten P C f (g ∷ gs) = by (bytes_eq f g.name) (find_rewritten P C f g
     by true later = refl
     by false later = later
 
-module _ (R : Relation) (closed : IsClosed R) (W : Type 0) (P : Prog) (C : Change) (puts : (c d : Calls) (asked : Asked) (start : Env) → AreRelated R W asked c d → PutsKeep R W start C c d) where
+module _ (R : Relation) (closed : IsClosed R) (W : Type 0) (P : Prog) (C : Change) (puts : (c d : Calls) (asked : Asked) (start : Env) → AreRelated R W asked c d → PutsKeep R W start P C c d) where
   enter_kept : (c d : Calls) (asked : Asked) → AreRelated R W asked c d → (o : Option Function) (vs : List Value) → (W → Enters (NoDefault c asked) o vs) → R Value false (enter (walk c) o vs) (enter (walk d) (option_map (rewritten_function P C) o) vs)
   enter_kept c d asked calls None vs h = closed.same Value cut
   enter_kept c d asked calls (Some g) vs h =

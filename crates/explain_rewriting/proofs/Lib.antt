@@ -2,3 +2,8 @@ pub mod Known
 pub mod Runs
 pub mod Keep
 pub mod SameRuns
+pub mod Arguments
+pub mod Put
+pub mod Each
+pub mod Begins
+pub mod Only

@@ -6,10 +6,10 @@ use Rattle.explain_rewriting.specs.Built.{Nil, Leaf, Nothing}
 use Rattle.explain_rewriting.specs.Scope as s
 use Rattle.explain_rewriting.specs.Scope.{Scope, kind, variable, in_pair, in_empty, in_list, in_tree, in_option, in_function}
 
--- what a change does to an expression, where this is known of variables
+-- what a change does to an expression of a program, where this is known of variables
 pub record Change : Type 0 where
   -- what it puts in place of the expression; none where it goes on with the parts
-  pub instead : Scope → t.Term → Option t.Term
+  pub instead : Prog → Scope → t.Term → Option t.Term
   -- whether a variable that is split, and has this type if it is known, is told to be a pair of its parts
   pub splits : Option Type' → Bool
 
@@ -21,7 +21,7 @@ unless (Some x) none some = none
 module _ (P : Prog) (C : Change) where
   -- what stands in place of an expression, where this stands once its parts are rewritten
   abbrev pub put : Scope → t.Term → t.Term → t.Term
-  put S e inner = unwrap_or (C.instead S e) inner
+  put S e inner = unwrap_or (C.instead P S e) inner
 
   abbrev mutual
     -- the expression with its parts rewritten
@@ -79,7 +79,7 @@ module _ (P : Prog) (C : Change) where
 
   -- whether something is put in place of the expression, or of a part that is evaluated whenever it is
   abbrev pub here : Scope → t.Term → Bool → Bool
-  here S e below = is_some (C.instead S e) || below
+  here S e below = is_some (C.instead P S e) || below
 
   abbrev mutual
     -- whether each evaluation that gives a value comes to a part in whose place something is put

@@ -93,8 +93,8 @@ abbrev pub apart : Option Text → Built → Scope → Scope
 apart None b S = S
 apart (Some x) b S = cond (differ (x ∷ parts b)) (Apart x b ∷ S) S
 
--- In the branches of a match of an expression, and where it is split. `splits` says whether a variable that is split, and has this type if it
--- is known, is told to be a pair of its parts.
+-- In the branches of a match of an expression, and where it is split. `splits` says whether a variable that is split, and has this type
+-- if it is known, is told to be a pair of its parts.
 abbrev pub in_pair : (Option Type' → Bool) → Prog → Scope → t.Term → Text → Text → Scope
 in_pair splits P S c x y =
     let A = kind P S c in

@@ -1,7 +1,7 @@
-// Laws.
-ghost use Rattle.explain_rewriting.specs.Rewriting.{Change};
+// What rewriting is, by examples: each law is the contract of a function that does nothing.
+ghost use Rattle.explain_rewriting.specs.Example.{Examples};
 
-/// Nothing.
-pub fn nothing()
-    ensures { (C : Change) → Unit {0} }
+/// Small programs are rewritten as it was worked out by hand.
+pub fn small_examples()
+    ensures { Examples }
 {}

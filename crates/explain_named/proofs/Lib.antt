@@ -1,0 +1,9 @@
+pub mod Runs
+pub mod Plain
+pub mod Mentions
+pub mod Surely
+pub mod Inside
+pub mod Keep
+pub mod Grown
+pub mod Arguments
+pub mod Appended
