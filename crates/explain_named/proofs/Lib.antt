@@ -7,3 +7,4 @@ pub mod Keep
 pub mod Grown
 pub mod Arguments
 pub mod Appended
+pub mod Placed

@@ -5,7 +5,7 @@ use Rattle.raml_syntax.specs.Tree as t
 use Rattle.raml_syntax.specs.Tree.{Text}
 use Rattle.raml_syntax.specs.Value.{Value, Both, Cons, Node, Just}
 use Rattle.raml_syntax.specs.Eval.{done, cut, costs, and_then, node, new_cell, arith, compare, negation, branch, pair_case, list_case, tree_case, option_case, Env, look, Calls, walk, walk_all}
-use Rattle.explain_named.specs.Naming.{mentions, one_mentions}
+use Rattle.explain_named.specs.Naming.{is, mentions, one_mentions}
 use Rattle.explain_named.proofs.Plain.{neither}
 
 -- all other variables have the same values
@@ -48,10 +48,10 @@ module _ (c : Calls) (x : Text) where
     alike (t.Just p a) env o new k = λ i. node (and_then (alike a env o new k i) (λ v. new_cell (Just v)))
     alike (t.Call p f args) env o new k = λ i. node (and_then (all_alike args env o new k i) (c f))
     alike (t.Let p y a b) env o new k =
-        let l = neither _ _ (neither _ _ new).1 in
+        let l = neither _ _ (neither (is x y) _ new).1 in
         λ i. node (and_then (alike a env o l.0 k i) (λ v. alike b ((y.name, v) ∷ env) ((y.name, v) ∷ o) l.1 (alike_bound x y.name v env o k) i))
     alike (t.LetPair p y z a b) env o new k =
-        let l = neither _ _ (neither _ _ (neither _ _ new).1).1 in
+        let l = neither _ _ (neither (is x z) _ (neither (is x y) _ new).1).1 in
         λ i. node (and_then (alike a env o l.0 k i)
         (λ v. pair_case v cut (λ s r. alike b _ _ l.1 (alike_bound x z.name r ((y.name, s) ∷ env) ((y.name, s) ∷ o) (alike_bound x y.name s env o k)) i)))
     alike (t.If p d a b) env o new k =
@@ -59,19 +59,19 @@ module _ (c : Calls) (x : Text) where
         let m = neither _ _ l.1 in
         λ i. node (and_then (alike d env o l.0 k i) (λ v. branch v (alike a env o m.0 k i) (alike b env o m.1 k i)))
     alike (t.MatchList p d a y z b) env o new k =
-        let l = neither _ _ (neither _ _ (neither _ _ new).1).1 in
+        let l = neither _ _ (neither (is x z) _ (neither (is x y) _ new).1).1 in
         let m = neither _ _ l.1 in
         λ i. node (and_then (alike d env o l.0 k i)
         (λ v. list_case v (alike a env o m.0 k i)
         (λ s r. alike b _ _ m.1 (alike_bound x z.name r ((y.name, s) ∷ env) ((y.name, s) ∷ o) (alike_bound x y.name s env o k)) i)))
     alike (t.MatchTree p d a y z u b) env o new k =
-        let l = neither _ _ (neither _ _ (neither _ _ (neither _ _ new).1).1).1 in
+        let l = neither _ _ (neither (is x u) _ (neither (is x z) _ (neither (is x y) _ new).1).1).1 in
         let m = neither _ _ l.1 in
         λ i. node (and_then (alike d env o l.0 k i)
         (λ v. tree_case v (alike a env o m.0 k i)
         (λ s h r. alike b _ _ m.1 (alike_bound x u.name r ((z.name, h) ∷ (y.name, s) ∷ env) ((z.name, h) ∷ (y.name, s) ∷ o) (alike_bound x z.name h ((y.name, s) ∷ env) ((y.name, s) ∷ o) (alike_bound x y.name s env o k))) i)))
     alike (t.MatchOption p d a y b) env o new k =
-        let l = neither _ _ (neither _ _ new).1 in
+        let l = neither _ _ (neither (is x y) _ new).1 in
         let m = neither _ _ l.1 in
         λ i. node (and_then (alike d env o l.0 k i)
         (λ v. option_case v (alike a env o m.0 k i) (λ s. alike b ((y.name, s) ∷ env) ((y.name, s) ∷ o) m.1 (alike_bound x y.name s env o k) i)))

@@ -133,11 +133,13 @@ plain_work c (t.More a rest) env h = omega (arith, work_positive c a env)
 -- where none of the variables among some arguments was bound again
 pub not_rebound : (S : Scope) (args : t.Terms) → is_rebound S args ≡ false → (x : Text) → has_argument x args ≡ true → is_bound x S ≡ false
 not_rebound S t.None h x is = absurd (no is)
-not_rebound S (t.More (t.Var p y) rest) h x is = by (bytes_eq x y) refl is
+not_rebound S (t.More (t.Var p y) rest) h x is =
+    let l = neither (is_bound y S) (is_rebound S rest) h in
+    by (bytes_eq x y) refl l.0 (not_rebound S rest l.1 x) is
   where
-    by : (b : Bool) → bytes_eq x y ≡ b → (b || has_argument x rest) ≡ true → is_bound x S ≡ false
-    by true e q = ap (λ z. is_bound z S) (name_is x y e) ∙ (neither (is_bound y S) (is_rebound S rest) h).0
-    by false e q = not_rebound S rest (neither (is_bound y S) (is_rebound S rest) h).1 x q
+    by : (b : Bool) → bytes_eq x y ≡ b → is_bound y S ≡ false → (has_argument x rest ≡ true → is_bound x S ≡ false) → (b || has_argument x rest) ≡ true → is_bound x S ≡ false
+    by true e here later q = ap (λ z. is_bound z S) (name_is x y e) ∙ here
+    by false e here later q = later q
 not_rebound S (t.More _ rest) h x is = not_rebound S rest h x is
 
 module _ (n : Naming) where

@@ -77,6 +77,7 @@ impl<'n> Change for Outside<'n> {
         is_place(self.naming, place.program, e)
     }
 
+    #[tactic(auto, using(crate::proofs::Placed::place_is_plain))]
     fn is_put<'s, 'a>(&self, place: Place<'s, 'a>, e: &'a Expr, other: &Expr) -> bool {
         is_place(self.naming, place.program, e)
             && is_with_name(self.naming, place.program, e, other)

@@ -5,5 +5,5 @@ pub mod SameRuns
 pub mod Arguments
 pub mod Put
 pub mod Each
-pub mod Begins
+pub mod Beginning
 pub mod Only

@@ -6,7 +6,7 @@ ghost use Rattle.explain_rewriting.specs.Begin as b;
 use raml_syntax::Expr;
 
 /// The byte of the first token of an expression.
-#[tactic(auto, using(crate::proofs::Begins::begins_at))]
+#[tactic(auto, using(crate::proofs::Beginning::begins_at))]
 pub fn begin(e: &Expr) -> u32
     ensures { result ≡ b.begin (term_of e.now) }
 {

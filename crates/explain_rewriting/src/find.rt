@@ -29,7 +29,7 @@ pub struct Spot<'s, 'a> {
 }
 
 /// Adds an expression, where something is to be found there.
-#[tactic(auto, using(crate::proofs::Begins::begins_at))]
+#[tactic(auto, using(crate::proofs::Beginning::begins_at))]
 fn add<'s, 'a, F: Finder>(
     finder: &F,
     spot: Spot<'s, 'a>,

@@ -13,7 +13,7 @@ pub mod laws;
 mod place;
 pub mod scope;
 mod site;
-mod surely;
+mod sure;
 
 pub use begins::begin;
 pub use built::Built;
@@ -24,4 +24,4 @@ pub use find::found;
 pub use finder::Finder;
 pub use place::Place;
 pub use site::{Site, Taken};
-pub use surely::surely;
+pub use sure::surely;

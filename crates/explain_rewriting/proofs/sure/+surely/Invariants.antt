@@ -1,7 +1,7 @@
 use Rattle.std.proofs.Common.{◌+◌, ◌*◌}
 use Rattle.raml_syntax.specs.Read.{term_of, terms_of}
 use Rattle.raml_syntax.specs.Node.{nodes, nodes_of_all}
-use Rattle.explain_rewriting.proofs.surely.+surely.Given as goal
+use Rattle.explain_rewriting.proofs.sure.+surely.Given as goal
 
 abbrev pub decreases-surely : goal.decreases-surely
 decreases-surely g l = 4 * nodes (term_of l.e.now) + 1

@@ -10,7 +10,7 @@ use crate::built::Built;
 use crate::change::Change;
 use crate::place::Place;
 use crate::kind::{element, first, kind, second};
-use crate::surely::{subject_surely, surely};
+use crate::sure::{subject_surely, surely};
 use raml_syntax::{Binder, Expr};
 
 /// Of `let x = bound in rest`.
