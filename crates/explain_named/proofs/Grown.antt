@@ -27,11 +27,11 @@ module _ (Is : Candidate → Type 0) where
   }
 
 -- those of one more function
-pub of_program : (P : Prog) (gs : List Fun) (i : ℕ) (fun : Fun) (xs ys : List Candidate) → i < length gs → fun ≡ get_or gs i fun → P ≡ map function_of gs → All (IsCandidate P) xs → Grows (IsCandidateIn (function_of fun)) xs ys → All (IsCandidate P) ys
+pub of_program : (P : Prog) (gs : List Fun) (i : ℕ) (fun : Fun) (xs ys : List Candidate) → i < length gs → fun ≡ get_or gs i fun → P ≡ map function_of gs → All (IsCandidate P) xs → Grows (IsCandidateIn P (function_of fun)) xs ys → All (IsCandidate P) ys
 of_program P gs i fun xs ys within is all before h =
     subst (All (IsCandidate P)) (sym h.made)
     (All-append (IsCandidate P) xs h.more before
-    (All-weaker (IsCandidateIn (function_of fun)) (IsCandidate P) (λ c k. record { function = function_of fun; of_program = stands; is = k }) h.more h.all))
+    (All-weaker (IsCandidateIn P (function_of fun)) (IsCandidate P) (λ c k. record { function = function_of fun; of_program = stands; is = k }) h.more h.all))
   where
     stands : Contains P (function_of fun)
     stands =

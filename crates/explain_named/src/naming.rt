@@ -1,4 +1,5 @@
 // Calls that are given names.
+use crate::atoms::has_argument;
 use raml_syntax::{Expr, Name, Pos};
 
 /// A name for the value of a call: the place of the expression that is evaluated with it, the function that is called, the
@@ -9,4 +10,11 @@ pub struct Naming<'a> {
     pub function: &'a Name,
     pub args: &'a [Expr],
     pub name: &'a Name,
+}
+
+impl<'a> Naming<'a> {
+    /// Whether the variables of the call are still what they were, once a name is bound again.
+    pub fn still(self, on: bool, bound: &Name) -> bool {
+        on && !has_argument(bound.text(), self.args)
+    }
 }
