@@ -11,13 +11,14 @@ ghost use Rattle.explain_rewriting.specs.Read.{sites_of, scope_in, Adds, found_a
 
 mod branches;
 
+use crate::begins::begin;
 use crate::find::branches::{
     walk_let, walk_let_pair, walk_match_list, walk_match_option, walk_match_tree,
 };
 use crate::scope::{Scope, variable};
 use crate::finder::Finder;
 use crate::site::Site;
-use raml_syntax::{Expr, Form, Fun, Name, Param, Program};
+use raml_syntax::{Expr, Form, Fun, Name, Param, Pos, Program};
 use std::alloc::{AllocError, Global};
 
 /// Where an expression stands: its program, its function, and what is known of variables.
@@ -29,7 +30,6 @@ pub struct Spot<'s, 'a> {
 }
 
 /// Adds an expression, where something is to be found there.
-#[tactic(auto, using(crate::proofs::Beginning::begins_at))]
 fn add<'s, 'a, F: Finder>(
     finder: &F,
     spot: Spot<'s, 'a>,
@@ -39,16 +39,18 @@ fn add<'s, 'a, F: Finder>(
     ensures { OnOk result (Adds found.old.items found.new.items
         (option_to_list (i.site_at (F.wanted finder.now) spot.entry.function.now (scope_in spot.entry.scope.now) (term_of e.now)))) }
 {
-    let Some(taken) = finder.find(spot.scope, e) else {
-        return Ok(());
-    };
-    found.push(Site {
-        at: e.at,
-        function: spot.function,
-        variable: taken.variable,
-        built: taken.built,
-    })?;
-    Ok(())
+    match finder.find(spot.scope, e) {
+        Some(taken) => {
+            found.push(Site {
+                at: Pos(begin(e)),
+                function: spot.function,
+                variable: taken.variable,
+                built: taken.built,
+            })?;
+            Ok(())
+        }
+        None => Ok(()),
+    }
 }
 
 /// Adds what is found in an expression.
