@@ -1,0 +1,27 @@
+//! A page of HTML that shows what the functions of a program cost at most.
+#![tactic(auto)]
+
+mod body;
+mod bound;
+mod calculator;
+mod cause;
+mod digest;
+mod frame;
+mod number;
+mod page;
+mod picture;
+mod promise;
+mod runs;
+mod script;
+mod source;
+mod style;
+mod table;
+mod top;
+
+pub use frame::{Sheets, write_page};
+pub use page::{
+    Block, Bound, Cause, Function, Line, Look, Mark, Page, Pair, Panel, Panels, Picture, Place,
+    Point, Span,
+};
+pub use script::SCRIPT;
+pub use style::STYLE;
