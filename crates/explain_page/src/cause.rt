@@ -10,26 +10,24 @@ no part of a proof.";
 
 /// The section of causes; nothing where no bound is missing.
 pub(crate) fn causes(alloc: Global, page: &Page<'_>) -> Result<Html, AllocError> {
-    let mut html = Html::new(alloc);
-    if !page.causes.is_empty() {
-        let section = told(alloc, page.causes)?;
-        html.around(Tag::Section, &[(Key::Id, "missing")], &section)?;
+    match page.causes {
+        Some(causes) => told(alloc, causes),
+        None => Ok(Html::new(alloc)),
     }
-    Ok(html)
 }
 
-fn told(alloc: Global, causes: &[Cause<'_>]) -> Result<Html, AllocError> {
+fn told(alloc: Global, causes: &Html) -> Result<Html, AllocError> {
     let mut section = Html::new(alloc);
     section.element(Tag::H2, &[], "Missing bounds: where and why")?;
     section.element(Tag::P, &[(Key::Class, "lead")], LEAD)?;
-    for cause in causes {
-        push_cause(alloc, &mut section, cause)?;
-    }
-    Ok(section)
+    section.add(causes)?;
+    let mut html = Html::new(alloc);
+    html.around(Tag::Section, &[(Key::Id, "missing")], &section)?;
+    Ok(html)
 }
 
-// Appends why a function has no bound.
-fn push_cause(alloc: Global, html: &mut Html, cause: &Cause<'_>) -> Result<(), AllocError> {
+/// Appends why a function has no bound.
+pub fn push_cause(alloc: Global, html: &mut Html, cause: &Cause<'_>) -> Result<(), AllocError> {
     let mut parts = Html::new(alloc);
     parts.element(Tag::H3, &[], cause.function)?;
     parts.element(Tag::P, &[(Key::Class, "soft")], cause.about)?;

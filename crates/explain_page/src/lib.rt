@@ -18,10 +18,14 @@ mod style;
 mod table;
 mod top;
 
+pub use cause::push_cause;
 pub use frame::{Sheets, write_page};
 pub use page::{
     Block, Bound, Cause, Function, Line, Look, Mark, Page, Pair, Panel, Panels, Picture, Place,
     Point, Span,
 };
+pub use picture::draw_picture;
+pub use runs::push_panels;
 pub use script::SCRIPT;
+pub use source::push_block;
 pub use style::STYLE;

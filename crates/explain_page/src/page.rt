@@ -1,4 +1,5 @@
 // What a page shows. Texts are as people read them; they are escaped where they are written.
+use explain_html::Html;
 
 /// A page about what the functions of a program cost.
 #[derive(Clone, Copy)]
@@ -14,17 +15,20 @@ pub struct Page<'a> {
     pub first: &'a str,
     /// Signs that occur in bounds, each with what it means.
     pub notations: &'a [Pair<'a>],
-    pub causes: &'a [Cause<'a>],
+    /// Why bounds are missing, by `push_cause`; nothing where none is.
+    pub causes: Option<&'a Html>,
     /// The commands that check the bounds again, a line each.
     pub commands: &'a str,
     /// Whether they were run, and what came of it.
     pub checked: &'a str,
     /// Files, each with its SHA-256.
     pub sums: &'a [Pair<'a>],
-    pub blocks: &'a [Block<'a>],
+    /// The source, by `push_block`.
+    pub source: &'a Html,
     /// Which runs were measured.
-    pub runs: &'a str,
-    pub panels: &'a [Panels<'a>],
+    pub measured: &'a str,
+    /// What runs cost, by `push_panels`.
+    pub runs: &'a Html,
 }
 
 /// A function, and what is known of its costs.
@@ -140,7 +144,8 @@ pub struct Panel<'a> {
     /// What was measured.
     pub title: &'a str,
     pub bound: Bound<'a>,
-    pub picture: Option<Picture<'a>>,
+    /// By `draw_picture`.
+    pub picture: Option<&'a Html>,
     /// What the picture shows last, or what is said in its place.
     pub said: &'a str,
 }

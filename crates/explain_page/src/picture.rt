@@ -9,8 +9,8 @@ const LEFT: u32 = 56;
 
 const RIGHT: u32 = 348;
 
-/// The picture.
-pub(crate) fn picture(alloc: Global, picture: &Picture<'_>) -> Result<Html, AllocError> {
+/// The picture, as SVG.
+pub fn draw_picture(alloc: Global, picture: &Picture<'_>) -> Result<Html, AllocError> {
     let view = format!(in alloc; "0 0 360 {}", picture.height)?;
     let parts = parts(alloc, picture)?;
     let mut html = Html::new(alloc);

@@ -2,7 +2,6 @@
 use crate::bound::bound;
 use crate::number::line_link;
 use crate::page::{Function, Page, Panel, Panels};
-use crate::picture::picture;
 use explain_html::{Html, Key, Tag};
 use std::alloc::{AllocError, Global};
 
@@ -10,17 +9,15 @@ use std::alloc::{AllocError, Global};
 pub(crate) fn runs(alloc: Global, page: &Page<'_>) -> Result<Html, AllocError> {
     let mut section = Html::new(alloc);
     section.element(Tag::H2, &[], "Measured runs against the bounds")?;
-    section.element(Tag::P, &[(Key::Class, "lead")], page.runs)?;
-    for panels in page.panels {
-        push_panels(alloc, &mut section, panels)?;
-    }
+    section.element(Tag::P, &[(Key::Class, "lead")], page.measured)?;
+    section.add(page.runs)?;
     let mut html = Html::new(alloc);
     html.around(Tag::Section, &[(Key::Id, "measured")], &section)?;
     Ok(html)
 }
 
-// Appends the runs of a function.
-fn push_panels(alloc: Global, html: &mut Html, panels: &Panels<'_>) -> Result<(), AllocError> {
+/// Appends what runs of a function cost.
+pub fn push_panels(alloc: Global, html: &mut Html, panels: &Panels<'_>) -> Result<(), AllocError> {
     let heading = heading(alloc, panels.function)?;
     let mut parts = Html::new(alloc);
     parts.around(Tag::Header, &[], &heading)?;
@@ -68,12 +65,8 @@ fn push_panel(alloc: Global, html: &mut Html, panel: &Panel<'_>) -> Result<(), A
     let mut parts = Html::new(alloc);
     parts.element(Tag::H4, &[], panel.title)?;
     parts.around(Tag::Div, &[], &told)?;
-    match &panel.picture {
-        Some(drawn) => {
-            let drawn = picture(alloc, drawn)?;
-            parts.add(&drawn)?;
-        }
-        None => {}
+    if let Some(picture) = panel.picture {
+        parts.add(picture)?;
     }
     parts.element(Tag::P, &[(Key::Class, "soft")], panel.said)?;
     html.around(Tag::Div, &[(Key::Class, "panel")], &parts)

@@ -10,21 +10,17 @@ bold; behind a line stands how often it is run at most, where that is known.";
 
 /// The section of the source.
 pub(crate) fn source(alloc: Global, page: &Page<'_>) -> Result<Html, AllocError> {
-    let mut blocks = Html::new(alloc);
-    for block in page.blocks {
-        push_block(alloc, &mut blocks, block)?;
-    }
     let mut section = Html::new(alloc);
     section.element(Tag::H2, &[], "Source")?;
     section.element(Tag::P, &[(Key::Class, "lead")], LEAD)?;
-    section.around(Tag::Div, &[(Key::Class, "source")], &blocks)?;
+    section.around(Tag::Div, &[(Key::Class, "source")], page.source)?;
     let mut html = Html::new(alloc);
     html.around(Tag::Section, &[(Key::Id, "source")], &section)?;
     Ok(html)
 }
 
-// Appends lines, and the bounds beside them.
-fn push_block(alloc: Global, html: &mut Html, block: &Block<'_>) -> Result<(), AllocError> {
+/// Appends lines, and the bounds beside them.
+pub fn push_block(alloc: Global, html: &mut Html, block: &Block<'_>) -> Result<(), AllocError> {
     let lines = lines(alloc, block.lines)?;
     if block.functions.is_empty() {
         return html.add(&lines);
@@ -72,14 +68,14 @@ fn code(alloc: Global, line: &Line<'_>) -> Result<Html, AllocError> {
     for span in line.spans {
         push_span(&mut html, span)?;
     }
-    match line.hit {
-        Some(function) => push_cause(alloc, &mut html, function)?,
-        None => {}
+    if let Some(function) = line.hit {
+        push_way(alloc, &mut html, function)?;
     }
     Ok(html)
 }
 
-fn push_cause(alloc: Global, html: &mut Html, function: &str) -> Result<(), AllocError> {
+// Appends the way to why a function has no bound.
+fn push_way(alloc: Global, html: &mut Html, function: &str) -> Result<(), AllocError> {
     let link = cause_link(alloc, function)?;
     let words = format!(in alloc; "why {function} has no bound")?;
     html.words("  ")?;

@@ -21,6 +21,7 @@ h2{font-size:17px;line-height:1.3;font-weight:600;margin:0 0 6px}
 h3{font:600 15px/1.4 var(--mono);margin:0}
 p{margin:0 0 8px}
 section{margin-top:44px}
+#bounds{margin-top:24px}
 .lead{color:var(--soft);font-size:14px;max-width:88ch;margin-bottom:14px}
 .soft{font-size:13px;color:var(--soft)}
 code,.mono{font-family:var(--mono);font-size:.87em}

@@ -24,7 +24,7 @@ pub(crate) fn top(alloc: Global, page: &Page<'_>) -> Result<Html, AllocError> {
 fn links(alloc: Global, page: &Page<'_>) -> Result<Html, AllocError> {
     let mut html = Html::new(alloc);
     push_link(&mut html, "#bounds", "Bounds")?;
-    if !page.causes.is_empty() {
+    if page.causes.is_some() {
         push_link(&mut html, "#missing", "Missing bounds")?;
     }
     push_link(&mut html, "#promise", "What is promised")?;
