@@ -109,6 +109,7 @@ other_sign c a l g q p = plain_text (encode c) at
   where
     plain : IsPlain c
     plain = record { no_reference = a; no_tag = (l, g); no_quote = (q, p) }
+
     at : (i : ℕ) → i < length (encode c) → IsPlain (get_or (encode c) i 0)
     at i below =
         ⊎_elim (λ low. subst IsPlain (inside_one c [] (encode c) i (sym (append-nil (encode c))) below low) plain) (λ high. high_plain _ high)
@@ -125,5 +126,5 @@ pub part_more : (start html next sign : Text) → ((part : Text) × (html ≡ st
 part_more start html next sign before appended = (
   before.0 ++ sign,
   appended ∙ ap (λ t. t ++ escaped sign) before.1 ∙ append_assoc start (escaped before.0) (escaped sign)
-  ∙ ap (λ t. start ++ t) (sym (flat_map-append (shown_by signs) before.0 sign)),
+      ∙ ap (λ t. start ++ t) (sym (flat_map-append (shown_by signs) before.0 sign)),
 )

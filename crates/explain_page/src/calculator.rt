@@ -7,7 +7,8 @@ use crate::page::{Bound, Function, Page};
 use explain_html::{Html, Key, Tag, Void};
 use std::alloc::{AllocError, Global};
 
-const LEAD: &str = "The bounds as exact whole numbers, rounded down. Where a list holds lists, give the longest of the
+const LEAD: &str =
+    "The bounds as exact whole numbers, rounded down. Where a list holds lists, give the longest of the
 inner ones: the number then holds for all data within these sizes.";
 
 /// The section of the calculator. It is hidden until the script shows it.
@@ -37,11 +38,7 @@ fn fields(alloc: Global, page: &Page<'_>) -> Result<Html, AllocError>
     ensures { IfOk result (λ html. Holds (choices_text page.now.functions.now) html) }
 {
     let mut html = choice(alloc, page)?;
-    html.element(
-        Tag::Div,
-        &[(Key::Class, "fields"), (Key::Id, "fields")],
-        "",
-    )?;
+    html.element(Tag::Div, &[(Key::Class, "fields"), (Key::Id, "fields")], "")?;
     let totals = totals(alloc)?;
     html.around(
         Tag::Div,

@@ -4,7 +4,8 @@ use crate::page::{Cause, Page, Place};
 use explain_html::{Html, Key, Tag};
 use std::alloc::{AllocError, Global};
 
-const LEAD: &str = "‘No bound’ says that the method has no formula of these degrees here, which a certificate shows; it
+const LEAD: &str =
+    "‘No bound’ says that the method has no formula of these degrees here, which a certificate shows; it
 does not say that the cost is unlimited. The causes below are found by pattern: they are advice, and
 no part of a proof.";
 
@@ -35,11 +36,7 @@ pub fn push_cause(alloc: Global, html: &mut Html, cause: &Cause<'_>) -> Result<(
         push_place(alloc, &mut parts, place)?;
     }
     let id = format!(in alloc; "why-{}", cause.function)?;
-    html.around(
-        Tag::Div,
-        &[(Key::Class, "cause"), (Key::Id, &id)],
-        &parts,
-    )
+    html.around(Tag::Div, &[(Key::Class, "cause"), (Key::Id, &id)], &parts)
 }
 
 // Appends what is said of a place.

@@ -12,7 +12,9 @@ pub(crate) fn policy(alloc: Global, style: &str, script: &str) -> Result<String,
 {
     let style = digest(alloc, style)?;
     let script = digest(alloc, script)?;
-    format!(in alloc; "default-src 'none'; style-src '{style}'; script-src '{script}'; base-uri 'none'; form-action 'none'")
+    format!(in alloc;
+        "default-src 'none'; style-src '{style}'; script-src '{script}'; base-uri 'none'; form-action 'none'"
+    )
 }
 
 /// The SHA-256 of a text, as a policy names it.

@@ -16,11 +16,7 @@ pub struct Sheets<'a> {
 }
 
 /// The page as a text in HTML, which stands alone.
-pub fn write_page(
-    alloc: Global,
-    page: &Page<'_>,
-    sheets: &Sheets<'_>,
-) -> Result<String, AllocError>
+pub fn write_page(alloc: Global, page: &Page<'_>, sheets: &Sheets<'_>) -> Result<String, AllocError>
     ensures { IfOk result (λ text. Shows page.now sheets.now.style.now sheets.now.script.now (string_bytes text)) }
 {
     let policy = policy(alloc, sheets.style, sheets.script)?;
@@ -41,5 +37,7 @@ fn framed(
     ensures { IfOk result (λ text. string_bytes text ≡ framed_text policy.now title.now sheets.now.style.now sheets.now.script.now body.now) }
 {
     let Sheets { style, script } = *sheets;
-    format!(in alloc; "<!DOCTYPE html>\n<html lang=\"en\"><head><meta charset=\"utf-8\"><meta http-equiv=\"Content-Security-Policy\" content=\"{policy}\"><meta name=\"viewport\" content=\"width=device-width,initial-scale=1\"><meta name=\"color-scheme\" content=\"light dark\"><title>{title}</title><style>{style}</style></head><body>{body}<script>{script}</script></body></html>\n")
+    format!(in alloc;
+        "<!DOCTYPE html>\n<html lang=\"en\"><head><meta charset=\"utf-8\"><meta http-equiv=\"Content-Security-Policy\" content=\"{policy}\"><meta name=\"viewport\" content=\"width=device-width,initial-scale=1\"><meta name=\"color-scheme\" content=\"light dark\"><title>{title}</title><style>{style}</style></head><body>{body}<script>{script}</script></body></html>\n"
+    )
 }

@@ -9,7 +9,6 @@ mod digest;
 mod frame;
 mod number;
 mod page;
-mod picture;
 mod promise;
 mod runs;
 mod script;
@@ -20,11 +19,7 @@ mod top;
 
 pub use cause::push_cause;
 pub use frame::{Sheets, write_page};
-pub use page::{
-    Block, Bound, Cause, Function, Line, Look, Mark, Page, Pair, Panel, Panels, Picture, Place,
-    Point, Span,
-};
-pub use picture::draw_picture;
+pub use page::{Block, Bound, Cause, Function, Line, Look, Page, Pair, Panel, Panels, Place, Span};
 pub use runs::push_panels;
 pub use script::SCRIPT;
 pub use source::push_block;

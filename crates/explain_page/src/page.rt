@@ -57,9 +57,13 @@ pub enum Bound<'a> {
         terms: &'a str,
     },
     /// None; the page tells why at this function.
-    Missing { cause: &'a str },
+    Missing {
+        cause: &'a str,
+    },
     /// None, since this function is called, which has none.
-    Calls { callee: &'a str },
+    Calls {
+        callee: &'a str,
+    },
 }
 
 /// A sign or a name, and what it means.
@@ -144,43 +148,8 @@ pub struct Panel<'a> {
     /// What was measured.
     pub title: &'a str,
     pub bound: Bound<'a>,
-    /// By `draw_picture`.
+    /// Points below a curve, as SVG, where something is drawn.
     pub picture: Option<&'a Html>,
     /// What the picture shows last, or what is said in its place.
     pub said: &'a str,
-}
-
-/// Points below a curve. Places are in pixels, of a picture that is 360 wide.
-#[derive(Clone, Copy)]
-pub struct Picture<'a> {
-    pub title: &'a str,
-    /// What it shows, for those who do not see it.
-    pub description: &'a str,
-    pub height: u32,
-    /// The lines of costs, from the left side to the right one.
-    pub costs: &'a [Mark<'a>],
-    /// The marks of sizes below.
-    pub sizes: &'a [Mark<'a>],
-    /// The path of the curve, and that of the region that it allows; empty where there is no bound.
-    pub curve: &'a str,
-    pub area: &'a str,
-    pub points: &'a [Point<'a>],
-}
-
-/// A place on an axis, with its number.
-#[derive(Clone, Copy)]
-pub struct Mark<'a> {
-    pub place: u32,
-    pub text: &'a str,
-}
-
-/// A run.
-#[derive(Clone, Copy)]
-pub struct Point<'a> {
-    pub x: u32,
-    pub y: u32,
-    /// What it tells.
-    pub title: &'a str,
-    /// Whether its arguments were given, and not made.
-    pub is_given: bool,
 }

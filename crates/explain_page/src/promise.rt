@@ -4,20 +4,24 @@ use explain_html::{Html, Key, Tag};
 use std::alloc::{AllocError, Global};
 
 /// What a bound says.
-const BOUNDS: &str = "For all arguments, a run of a function costs no more ticks and cells than its bounds say at the
+const BOUNDS: &str =
+    "For all arguments, a run of a function costs no more ticks and cells than its bounds say at the
 sizes of these arguments, and no more machine instructions than four times its bound of work, even
 if the run is stopped or never ends.";
 
 /// What a missing bound says.
-const NO_BOUND: &str = "‘No bound’ promises only that the method has no formula of these degrees; it says nothing about what
+const NO_BOUND: &str =
+    "‘No bound’ promises only that the method has no formula of these degrees; it says nothing about what
 such a function costs.";
 
 /// What nothing here says.
-const NOTHING: &str = "Nothing is promised about seconds, bytes of real memory or the native stack, nor about costs that
+const NOTHING: &str =
+    "Nothing is promised about seconds, bytes of real memory or the native stack, nor about costs that
 the source states with no tick; measured points are examples and prove nothing.";
 
 /// What the commands do.
-const COMMANDS: &str = "The first command makes the certificate; the second has the small checker read it against the
+const COMMANDS: &str =
+    "The first command makes the certificate; the second has the small checker read it against the
 source, and print the bounds.";
 
 /// The section with both.

@@ -33,11 +33,7 @@ fn heading(alloc: Global, function: &Function<'_>) -> Result<Html, AllocError> {
     name.element(Tag::A, &[(Key::Href, &link)], function.name)?;
     let mut html = Html::new(alloc);
     html.around(Tag::H3, &[], &name)?;
-    html.element(
-        Tag::Span,
-        &[(Key::Class, "signature")],
-        function.signature,
-    )?;
+    html.element(Tag::Span, &[(Key::Class, "signature")], function.signature)?;
     html.element(
         Tag::A,
         &[

@@ -5,7 +5,8 @@ use crate::page::{Block, Bound, Function, Line, Look, Page, Span};
 use explain_html::{Html, Key, Tag};
 use std::alloc::{AllocError, Global};
 
-const LEAD: &str = "Each function has its bounds beside its first line. Ticks, the costs that the source states, are set
+const LEAD: &str =
+    "Each function has its bounds beside its first line. Ticks, the costs that the source states, are set
 bold; behind a line stands how often it is run at most, where that is known.";
 
 /// The section of the source.
@@ -44,9 +45,22 @@ fn lines(alloc: Global, lines: &[Line<'_>]) -> Result<Html, AllocError> {
 fn push_line(alloc: Global, html: &mut Html, line: &Line<'_>) -> Result<(), AllocError> {
     let parts = line_parts(alloc, line)?;
     let id = format!(in alloc; "L{}", line.number)?;
-    let class = if line.hit.is_some() { "line hit" } else { "line" };
-    html.around(Tag::Div, &[(Key::Class, class), (Key::Id, &id)], &parts)?;
+    let class = line_class(line.hit.is_some());
+    push_classed(html, class, &id, &parts)?;
     html.words("\n")
+}
+
+fn line_class(is_hit: bool) -> &'static str {
+    if is_hit { "line hit" } else { "line" }
+}
+
+fn push_classed<'a>(
+    html: &mut Html,
+    class: &'a str,
+    id: &'a str,
+    parts: &Html,
+) -> Result<(), AllocError> {
+    html.around(Tag::Div, &[(Key::Class, class), (Key::Id, id)], parts)
 }
 
 // Its number, its code and what is said of it.

@@ -39,7 +39,12 @@ fn rows_below_head(alloc: Global, functions: &[Function<'_>]) -> Result<Html, Al
 // The caption and the head.
 fn head(alloc: Global) -> Result<Html, AllocError> {
     let mut names = Html::new(alloc);
-    for name in ["function", "ticks, at most", "cells, at most", "work, at most"] {
+    for name in [
+        "function",
+        "ticks, at most",
+        "cells, at most",
+        "work, at most",
+    ] {
         names.element(
             Tag::Th,
             &[(Key::Role, "columnheader"), (Key::Scope, "col")],
@@ -59,11 +64,7 @@ fn head(alloc: Global) -> Result<Html, AllocError> {
 }
 
 // Appends a row for each function.
-fn push_rows(
-    alloc: Global,
-    html: &mut Html,
-    functions: &[Function<'_>],
-) -> Result<(), AllocError>
+fn push_rows(alloc: Global, html: &mut Html, functions: &[Function<'_>]) -> Result<(), AllocError>
     ensures { OnOk result (html.new ≡ html.old ++ rows_text functions.now) }
 {
     for function in functions {

@@ -10,11 +10,7 @@ pub(crate) fn top(alloc: Global, page: &Page<'_>) -> Result<Html, AllocError> {
     parts.element(Tag::P, &[(Key::Class, "about")], page.about)?;
     parts.element(Tag::P, &[(Key::Class, "verdict")], page.verdict)?;
     let links = links(alloc, page)?;
-    parts.around(
-        Tag::Nav,
-        &[(Key::Label, "Parts of this report")],
-        &links,
-    )?;
+    parts.around(Tag::Nav, &[(Key::Label, "Parts of this report")], &links)?;
     let mut html = Html::new(alloc);
     html.around(Tag::Header, &[], &parts)?;
     Ok(html)
