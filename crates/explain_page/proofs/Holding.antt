@@ -1,29 +1,51 @@
 -- What stands in a part stands in all that holds the part.
-use Rattle.std.proofs.Common.{◌≡◌, List, [], ◌++◌, refl, sym, ap, ◌∙◌, append_assoc, append-nil}
-use Rattle.explain_html.specs.Escaped.{Text}
+use Rattle.std.proofs.Common.{◌≡◌, List, [], ◌++◌, Result, Ok, Err, IfOk, refl, sym, subst, ap, ◌∙◌, append_assoc, append-nil}
+use Rattle.explain_html.specs.Escaped.{Text, escaped}
 use Rattle.explain_html.specs.Names.{tag_name}
-use Rattle.explain_html.specs.Html.{Attribute, around, start_text, end_text}
+use Rattle.explain_html.specs.Html.{Attribute, IsHtml, around, start_text, end_text}
 use Rattle.explain_html.specs.declared.tag.Tag.{Tag}
-use Rattle.explain_page.specs.Page.{Holds}
+use Rattle.explain_page.specs.Policy.{policy_text}
+use Rattle.explain_page.specs.Table.{rows_text, choices_text}
+use Rattle.explain_page.specs.Page.{Holds, Shows, framed_text}
+use Rattle.explain_page.specs.declared.page.Page.{Page}
 
-pub holds_all : {part text : Text} → text ≡ part → Holds part text
-holds_all {part = part} is = record { before = []; behind = []; is = is ∙ sym (append-nil part) }
+pub holds_same : {part whole text : Text} → Holds part whole → text ≡ whole → Holds part text
+holds_same {part = part} h is = subst (Holds part) (sym is) h
 
-pub holds_first : {part first text : Text} (second : Text) → Holds part first → text ≡ first ++ second → Holds part text
-holds_first {part = part} second h is = record {
+pub holds_first : (part first second : Text) → Holds part first → Holds part (first ++ second)
+holds_first part first second h = record {
   before = h.before;
   behind = h.behind ++ second;
-  is = is ∙ ap (λ t. t ++ second) h.is ∙ append_assoc h.before (part ++ h.behind) second ∙ ap (λ t. h.before ++ t) (append_assoc part h.behind second);
+  is = ap (λ t. t ++ second) h.is ∙ append_assoc h.before (part ++ h.behind) second ∙ ap (λ t. h.before ++ t) (append_assoc part h.behind second);
 }
 
-pub holds_second : {part second text : Text} (first : Text) → Holds part second → text ≡ first ++ second → Holds part text
-holds_second {part = part} first h is = record {
+pub holds_second : (part first second : Text) → Holds part second → Holds part (first ++ second)
+holds_second part first second h = record {
   before = first ++ h.before;
   behind = h.behind;
-  is = is ∙ ap (λ t. first ++ t) h.is ∙ sym (append_assoc first h.before (part ++ h.behind));
+  is = ap (λ t. first ++ t) h.is ∙ sym (append_assoc first h.before (part ++ h.behind));
 }
 
--- an element behind something
-pub holds_around : {part content text : Text} (before : Text) (t : Tag) (attributes : List Attribute) → Holds part content → text ≡ before ++ around t attributes content → Holds part text
-holds_around {content = content} before t attributes h is =
-    holds_second before (holds_second (start_text (tag_name t) attributes) (holds_first (end_text t) h refl) refl) is
+-- at the end
+pub holds_last : (part first : Text) {text : Text} → text ≡ first ++ part → Holds part text
+holds_last part first is = record { before = first; behind = []; is = is ∙ ap (λ t. first ++ t) (sym (append-nil part)) }
+
+-- in an element behind something
+pub holds_around : (part before content : Text) (t : Tag) (attributes : List Attribute) → Holds part content → Holds part (before ++ around t attributes content)
+holds_around part before content t attributes h =
+    let start = start_text (tag_name t) attributes in
+    holds_second part before (around t attributes content) (holds_second part start (content ++ end_text t) (holds_first part content (end_text t) h))
+
+-- a page with a body that shows it
+pub shown : {T E : Type 0} (bytes : T → Text) (r : Result T E) (p : Page) (style script policy title content body : Text) →
+    policy ≡ escaped (policy_text style script) → title ≡ escaped p.name.now → body ≡ content → IsHtml body →
+    Holds (rows_text p.functions.now) content → Holds (choices_text p.functions.now) content →
+    IfOk r (λ text. bytes text ≡ framed_text policy title style script body) → IfOk r (λ text. Shows p style script (bytes text))
+shown bytes (Ok text) p style script policy title content body allows names whole html table choices is = record {
+  body = body;
+  html = html;
+  table = holds_same table whole;
+  choices = holds_same choices whole;
+  is = is ∙ (λ i. framed_text (allows i) (names i) style script body);
+}
+shown bytes (Err e) p style script policy title content body allows names whole html table choices is = tt
