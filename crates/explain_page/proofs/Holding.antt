@@ -1,5 +1,5 @@
 -- What stands in a part stands in all that holds the part.
-use Rattle.std.proofs.Common.{◌≡◌, List, [], ◌++◌, Result, Ok, Err, IfOk, refl, sym, subst, ap, ◌∙◌, append_assoc, append-nil}
+use Rattle.std.proofs.Common.{◌≡◌, List, [], ◌++◌, Result, Ok, Err, IfOk, OnOk, refl, sym, subst, ap, ◌∙◌, append_assoc, append-nil}
 use Rattle.explain_html.specs.Escaped.{Text, escaped}
 use Rattle.explain_html.specs.Names.{tag_name}
 use Rattle.explain_html.specs.Html.{Attribute, IsHtml, around, start_text, end_text}
@@ -35,6 +35,25 @@ pub holds_around : (part before content : Text) (t : Tag) (attributes : List Att
 holds_around part before content t attributes h =
     let start = start_text (tag_name t) attributes in
     holds_second part before (around t attributes content) (holds_second part start (content ++ end_text t) (holds_first part content (end_text t) h))
+
+-- behind which something is appended
+pub holds_more : {part old new : Text} → Holds part old → ((more : Text) × (new ≡ old ++ more)) → Holds part new
+holds_more {part = part} {old = old} h more = holds_same (holds_first part old more.0 h) more.1
+
+-- ---- behind a call that may fail
+
+pub held_around : {A E : Type 0} (r : Result A E) (part old content : Text) {new : Text} (t : Tag) (attributes : List Attribute) →
+    Holds part content → OnOk r (new ≡ old ++ around t attributes content) → OnOk r (Holds part new)
+held_around (Ok a) part old content t attributes h is = holds_same (holds_around part old content t attributes h) is
+held_around (Err e) part old content t attributes h is = tt
+
+pub held_more : {A E : Type 0} (r : Result A E) {part old new : Text} → Holds part old → OnOk r ((more : Text) × (new ≡ old ++ more)) → OnOk r (Holds part new)
+held_more (Ok a) h more = holds_more h more
+held_more (Err e) h more = tt
+
+pub held_behind : {A E : Type 0} (r : Result A E) {part old new : Text} (more : Text) → Holds part old → OnOk r (new ≡ old ++ more) → OnOk r (Holds part new)
+held_behind (Ok a) more h is = holds_more h (more, is)
+held_behind (Err e) more h is = tt
 
 -- a page with a body that shows it
 pub shown : {T E : Type 0} (bytes : T → Text) (r : Result T E) (p : Page) (style script policy title content body : Text) →

@@ -1,16 +1,16 @@
 // The body of a page.
-ghost use Rattle.std.specs.Prelude.{IfOk};
+ghost use Rattle.std.specs.Prelude.{IfOk, OnOk};
 ghost use Rattle.explain_page.specs.Table.{rows_text, choices_text};
 ghost use Rattle.explain_page.specs.Page.{Holds};
 
-use crate::calculator::calculator;
-use crate::cause::causes;
+use crate::calculator::push_calculator;
+use crate::cause::push_causes;
 use crate::page::Page;
-use crate::promise::promise;
-use crate::runs::runs;
-use crate::source::source;
-use crate::table::table;
-use crate::top::top;
+use crate::promise::push_promise;
+use crate::runs::push_runs;
+use crate::source::push_source;
+use crate::table::push_table;
+use crate::top::push_top;
 use explain_html::{Html, Key, Tag};
 use std::alloc::{AllocError, Global};
 
@@ -19,39 +19,68 @@ pub(crate) fn body(alloc: Global, page: &Page<'_>) -> Result<Html, AllocError>
     ensures table { IfOk result (λ html. Holds (rows_text page.now.functions.now) html) }
     ensures choices { IfOk result (λ html. Holds (choices_text page.now.functions.now) html) }
 {
-    let mut content = top(alloc, page)?;
-    let sections = sections(alloc, page)?;
-    content.around(Tag::Main, &[], &sections)?;
-    content.element(
-        Tag::Footer,
-        &[],
-        "Made from the source and the analyser alone: the same two give the same bytes.",
-    )?;
     let mut html = Html::new(alloc);
+    push_body(alloc, &mut html, page)?;
+    Ok(html)
+}
+
+// Appends the way past the head, and the page.
+fn push_body(alloc: Global, html: &mut Html, page: &Page<'_>) -> Result<(), AllocError>
+    ensures table { OnOk result (Holds (rows_text page.now.functions.now) html.new) }
+    ensures choices { OnOk result (Holds (choices_text page.now.functions.now) html.new) }
+{
     html.element(
         Tag::A,
         &[(Key::Class, "skip"), (Key::Href, "#bounds")],
         "To the bounds",
     )?;
-    html.around(Tag::Div, &[(Key::Class, "page")], &content)?;
+    let content = content(alloc, page)?;
+    html.around(Tag::Div, &[(Key::Class, "page")], &content)
+}
+
+// The head, the sections and the foot.
+fn content(alloc: Global, page: &Page<'_>) -> Result<Html, AllocError>
+    ensures table { IfOk result (λ html. Holds (rows_text page.now.functions.now) html) }
+    ensures choices { IfOk result (λ html. Holds (choices_text page.now.functions.now) html) }
+{
+    let mut html = Html::new(alloc);
+    push_top(alloc, &mut html, page)?;
+    push_main(alloc, &mut html, page)?;
     Ok(html)
 }
 
-// The sections of the page, in the order in which they are read.
+// Appends the sections and the foot.
+fn push_main(alloc: Global, html: &mut Html, page: &Page<'_>) -> Result<(), AllocError>
+    ensures table { OnOk result (Holds (rows_text page.now.functions.now) html.new) }
+    ensures choices { OnOk result (Holds (choices_text page.now.functions.now) html.new) }
+{
+    let sections = sections(alloc, page)?;
+    html.around(Tag::Main, &[], &sections)?;
+    html.element(
+        Tag::Footer,
+        &[],
+        "Made from the source and the analyser alone: the same two give the same bytes.",
+    )
+}
+
 fn sections(alloc: Global, page: &Page<'_>) -> Result<Html, AllocError>
     ensures table { IfOk result (λ html. Holds (rows_text page.now.functions.now) html) }
     ensures choices { IfOk result (λ html. Holds (choices_text page.now.functions.now) html) }
 {
-    let mut html = table(alloc, page)?;
-    let why = causes(alloc, page)?;
-    html.add(&why)?;
-    let promise = promise(alloc, page)?;
-    html.add(&promise)?;
-    let calculator = calculator(alloc, page)?;
-    html.add(&calculator)?;
-    let source = source(alloc, page)?;
-    html.add(&source)?;
-    let runs = runs(alloc, page)?;
-    html.add(&runs)?;
+    let mut html = Html::new(alloc);
+    push_sections(alloc, &mut html, page)?;
     Ok(html)
+}
+
+// Appends the sections of the page, in the order in which they are read.
+fn push_sections(alloc: Global, html: &mut Html, page: &Page<'_>) -> Result<(), AllocError>
+    ensures table { OnOk result (Holds (rows_text page.now.functions.now) html.new) }
+    ensures choices { OnOk result (Holds (choices_text page.now.functions.now) html.new) }
+{
+    push_table(alloc, html, page)?;
+    push_causes(alloc, html, page)?;
+    push_promise(alloc, html, page)?;
+    push_calculator(alloc, html, page)?;
+    push_source(alloc, html, page)?;
+    push_runs(alloc, html, page)
 }

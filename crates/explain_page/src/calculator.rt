@@ -1,6 +1,7 @@
 // The calculator, which the script fills.
 ghost use Rattle.std.specs.Prelude.{◌≡◌, ◌++◌, IfOk, OnOk};
 ghost use Rattle.explain_page.specs.Table.{terms_of, choice_text, choices_text};
+ghost use Rattle.explain_html.specs.Escaped.{Text};
 ghost use Rattle.explain_page.specs.Page.{Holds};
 
 use crate::page::{Bound, Function, Page};
@@ -11,64 +12,91 @@ const LEAD: &str =
     "The bounds as exact whole numbers, rounded down. Where a list holds lists, give the longest of the
 inner ones: the number then holds for all data within these sizes.";
 
-/// The section of the calculator. It is hidden until the script shows it.
-pub(crate) fn calculator(alloc: Global, page: &Page<'_>) -> Result<Html, AllocError>
-    ensures { IfOk result (λ html. Holds (choices_text page.now.functions.now) html) }
+/// Appends the section of the calculator. It is hidden until the script shows it.
+pub(crate) fn push_calculator(
+    alloc: Global,
+    html: &mut Html,
+    page: &Page<'_>,
+) -> Result<(), AllocError>
+    ensures choices { OnOk result (Holds (choices_text page.now.functions.now) html.new) }
+    ensures more { OnOk result ((more : Text) × (html.new ≡ html.old ++ more)) }
 {
-    let mut section = Html::new(alloc);
-    section.element(Tag::H2, &[], "Try sizes")?;
-    section.element(Tag::P, &[(Key::Class, "lead")], LEAD)?;
-    let fields = fields(alloc, page)?;
-    section.around(
-        Tag::Div,
-        &[(Key::Class, "calculator"), (Key::Id, "calculator")],
-        &fields,
-    )?;
-    let mut html = Html::new(alloc);
+    let section = section(alloc, page)?;
     html.around(
         Tag::Section,
         &[(Key::Id, "try"), (Key::Hidden, "")],
         &section,
-    )?;
+    )
+}
+
+fn section(alloc: Global, page: &Page<'_>) -> Result<Html, AllocError>
+    ensures { IfOk result (λ html. Holds (choices_text page.now.functions.now) html) }
+{
+    let mut html = Html::new(alloc);
+    push_led(&mut html)?;
+    push_fields(alloc, &mut html, page)?;
     Ok(html)
+}
+
+fn push_led(html: &mut Html) -> Result<(), AllocError> {
+    html.element(Tag::H2, &[], "Try sizes")?;
+    html.element(Tag::P, &[(Key::Class, "lead")], LEAD)
+}
+
+fn push_fields(alloc: Global, html: &mut Html, page: &Page<'_>) -> Result<(), AllocError>
+    ensures { OnOk result (Holds (choices_text page.now.functions.now) html.new) }
+{
+    let fields = fields(alloc, page)?;
+    html.around(
+        Tag::Div,
+        &[(Key::Class, "calculator"), (Key::Id, "calculator")],
+        &fields,
+    )
 }
 
 // The choice of a function, its sizes, the totals and the limit.
 fn fields(alloc: Global, page: &Page<'_>) -> Result<Html, AllocError>
     ensures { IfOk result (λ html. Holds (choices_text page.now.functions.now) html) }
 {
-    let mut html = choice(alloc, page)?;
-    html.element(Tag::Div, &[(Key::Class, "fields"), (Key::Id, "fields")], "")?;
-    let totals = totals(alloc)?;
-    html.around(
-        Tag::Div,
-        &[(Key::Class, "results"), (Key::Live, "polite")],
-        &totals,
-    )?;
-    let limit = limit(alloc)?;
-    html.around(
-        Tag::Div,
-        &[(Key::Class, "limit"), (Key::Id, "limit")],
-        &limit,
-    )?;
+    let mut html = Html::new(alloc);
+    push_select(alloc, &mut html, page)?;
+    push_results(alloc, &mut html)?;
     Ok(html)
 }
 
-// The choice of a function.
-fn choice(alloc: Global, page: &Page<'_>) -> Result<Html, AllocError>
-    ensures { IfOk result (λ html. Holds (choices_text page.now.functions.now) html) }
+// Appends the choice of a function.
+fn push_select(alloc: Global, html: &mut Html, page: &Page<'_>) -> Result<(), AllocError>
+    ensures { OnOk result (Holds (choices_text page.now.functions.now) html.new) }
 {
+    html.element(Tag::Label, &[(Key::For, "pick")], "Function")?;
     let mut choices = Html::new(alloc);
     push_choices(&mut choices, page.functions)?;
+    html.around(Tag::Select, &[(Key::Id, "pick")], &choices)
+}
+
+// Appends the signature, the sizes, the totals and the limit, which the script fills.
+fn push_results(alloc: Global, html: &mut Html) -> Result<(), AllocError>
+    ensures { OnOk result ((more : Text) × (html.new ≡ html.old ++ more)) }
+{
+    let results = results(alloc)?;
+    html.around(Tag::Div, &[], &results)
+}
+
+fn results(alloc: Global) -> Result<Html, AllocError> {
     let mut html = Html::new(alloc);
-    html.element(Tag::Label, &[(Key::For, "pick")], "Function")?;
-    html.around(Tag::Select, &[(Key::Id, "pick")], &choices)?;
+    push_places(&mut html)?;
+    push_totals(alloc, &mut html)?;
+    push_limit(alloc, &mut html)?;
+    Ok(html)
+}
+
+fn push_places(html: &mut Html) -> Result<(), AllocError> {
     html.element(
         Tag::P,
         &[(Key::Class, "signature"), (Key::Id, "signature")],
         "",
     )?;
-    Ok(html)
+    html.element(Tag::Div, &[(Key::Class, "fields"), (Key::Id, "fields")], "")
 }
 
 // Appends a choice for each function.
@@ -108,13 +136,21 @@ fn terms<'a>(bound: &Bound<'a>) -> &'a str
     }
 }
 
-// A total for each meter.
-fn totals(alloc: Global) -> Result<Html, AllocError> {
-    let mut html = Html::new(alloc);
-    push_total(alloc, &mut html, "ticks", "total-ticks")?;
-    push_total(alloc, &mut html, "cells", "total-cells")?;
-    push_total(alloc, &mut html, "work", "total-work")?;
-    Ok(html)
+// Appends a total for each meter.
+fn push_totals(alloc: Global, html: &mut Html) -> Result<(), AllocError> {
+    let mut totals = Html::new(alloc);
+    push_three(alloc, &mut totals)?;
+    html.around(
+        Tag::Div,
+        &[(Key::Class, "results"), (Key::Live, "polite")],
+        &totals,
+    )
+}
+
+fn push_three(alloc: Global, html: &mut Html) -> Result<(), AllocError> {
+    push_total(alloc, html, "ticks", "total-ticks")?;
+    push_total(alloc, html, "cells", "total-cells")?;
+    push_total(alloc, html, "work", "total-work")
 }
 
 fn push_total(alloc: Global, html: &mut Html, meter: &str, id: &str) -> Result<(), AllocError> {
@@ -124,9 +160,30 @@ fn push_total(alloc: Global, html: &mut Html, meter: &str, id: &str) -> Result<(
     html.around(Tag::Div, &[], &parts)
 }
 
-// The limit to solve for.
-fn limit(alloc: Global) -> Result<Html, AllocError> {
-    let mut html = Html::new(alloc);
+// Appends the limit to solve for.
+fn push_limit(alloc: Global, html: &mut Html) -> Result<(), AllocError> {
+    let mut limit = Html::new(alloc);
+    push_limit_parts(alloc, &mut limit)?;
+    html.around(
+        Tag::Div,
+        &[(Key::Class, "limit"), (Key::Id, "limit")],
+        &limit,
+    )
+}
+
+fn push_limit_parts(alloc: Global, html: &mut Html) -> Result<(), AllocError> {
+    push_most(html)?;
+    push_meters(alloc, html)?;
+    html.element(Tag::Label, &[(Key::For, "solved")], "the greatest")?;
+    html.element(Tag::Select, &[(Key::Id, "solved")], "")?;
+    html.element(
+        Tag::Output,
+        &[(Key::Id, "answer"), (Key::Live, "polite")],
+        "",
+    )
+}
+
+fn push_most(html: &mut Html) -> Result<(), AllocError> {
     html.element(Tag::Label, &[(Key::For, "most")], "Within")?;
     html.void(
         Void::Input,
@@ -136,27 +193,17 @@ fn limit(alloc: Global) -> Result<Html, AllocError> {
             (Key::Complete, "off"),
             (Key::Value, "30,000,000"),
         ],
-    )?;
-    let meters = meters(alloc)?;
+    )
+}
+
+fn push_meters(alloc: Global, html: &mut Html) -> Result<(), AllocError> {
+    let mut meters = Html::new(alloc);
+    meters.element(Tag::Choice, &[], "ticks")?;
+    meters.element(Tag::Choice, &[], "cells")?;
+    meters.element(Tag::Choice, &[], "work")?;
     html.around(
         Tag::Select,
         &[(Key::Id, "meter"), (Key::Label, "Meter")],
         &meters,
-    )?;
-    html.element(Tag::Label, &[(Key::For, "solved")], "the greatest")?;
-    html.element(Tag::Select, &[(Key::Id, "solved")], "")?;
-    html.element(
-        Tag::Output,
-        &[(Key::Id, "answer"), (Key::Live, "polite")],
-        "",
-    )?;
-    Ok(html)
-}
-
-fn meters(alloc: Global) -> Result<Html, AllocError> {
-    let mut html = Html::new(alloc);
-    for meter in ["ticks", "cells", "work"] {
-        html.element(Tag::Choice, &[], meter)?;
-    }
-    Ok(html)
+    )
 }

@@ -1,4 +1,7 @@
 // The source, with the bounds in its margin.
+ghost use Rattle.std.specs.Prelude.{◌≡◌, ◌++◌, OnOk};
+ghost use Rattle.explain_html.specs.Escaped.{Text};
+
 use crate::bound::bound;
 use crate::number::{cause_link, digits, line_link};
 use crate::page::{Block, Bound, Function, Line, Look, Page, Span};
@@ -6,48 +9,63 @@ use explain_html::{Html, Key, Tag};
 use std::alloc::{AllocError, Global};
 
 const LEAD: &str =
-    "Each function has its bounds beside its first line. Ticks, the costs that the source states, are set
-bold; behind a line stands how often it is run at most, where that is known.";
+    "Each function has its bounds beside its first line. Ticks, the costs that the source states, are
+set bold; behind a line stands how often it is run at most, where that is known.";
 
-/// The section of the source.
-pub(crate) fn source(alloc: Global, page: &Page<'_>) -> Result<Html, AllocError> {
-    let mut section = Html::new(alloc);
-    section.element(Tag::H2, &[], "Source")?;
-    section.element(Tag::P, &[(Key::Class, "lead")], LEAD)?;
-    section.around(Tag::Div, &[(Key::Class, "source")], page.source)?;
+/// Appends the section of the source.
+pub(crate) fn push_source(alloc: Global, html: &mut Html, page: &Page<'_>) -> Result<(), AllocError>
+    ensures { OnOk result ((more : Text) × (html.new ≡ html.old ++ more)) }
+{
+    let section = section(alloc, page)?;
+    html.around(Tag::Section, &[(Key::Id, "source")], &section)
+}
+
+fn section(alloc: Global, page: &Page<'_>) -> Result<Html, AllocError> {
     let mut html = Html::new(alloc);
-    html.around(Tag::Section, &[(Key::Id, "source")], &section)?;
+    push_led(&mut html, page)?;
     Ok(html)
+}
+
+fn push_led(html: &mut Html, page: &Page<'_>) -> Result<(), AllocError> {
+    html.element(Tag::H2, &[], "Source")?;
+    html.element(Tag::P, &[(Key::Class, "lead")], LEAD)?;
+    html.around(Tag::Div, &[(Key::Class, "source")], page.source)
 }
 
 /// Appends lines, and the bounds beside them.
 pub fn push_block(alloc: Global, html: &mut Html, block: &Block<'_>) -> Result<(), AllocError> {
-    let lines = lines(alloc, block.lines)?;
     if block.functions.is_empty() {
-        return html.add(&lines);
+        return push_lines(alloc, html, block.lines);
     }
-    let bounds = margin(alloc, block.functions)?;
-    let mut columns = Html::new(alloc);
-    columns.around(Tag::Div, &[], &lines)?;
-    columns.around(Tag::Dl, &[(Key::Class, "margin")], &bounds)?;
+    let columns = columns(alloc, block)?;
     html.around(Tag::Div, &[(Key::Class, "block")], &columns)
 }
 
-fn lines(alloc: Global, lines: &[Line<'_>]) -> Result<Html, AllocError> {
+fn columns(alloc: Global, block: &Block<'_>) -> Result<Html, AllocError> {
     let mut html = Html::new(alloc);
-    for line in lines {
-        push_line(alloc, &mut html, line)?;
-    }
+    push_code(alloc, &mut html, block.lines)?;
+    push_margin(alloc, &mut html, block.functions)?;
     Ok(html)
+}
+
+fn push_code(alloc: Global, html: &mut Html, lines: &[Line<'_>]) -> Result<(), AllocError> {
+    let mut code = Html::new(alloc);
+    push_lines(alloc, &mut code, lines)?;
+    html.around(Tag::Div, &[], &code)
+}
+
+fn push_lines(alloc: Global, html: &mut Html, lines: &[Line<'_>]) -> Result<(), AllocError> {
+    for line in lines {
+        push_line(alloc, html, line)?;
+    }
+    Ok(())
 }
 
 // Appends a line.
 fn push_line(alloc: Global, html: &mut Html, line: &Line<'_>) -> Result<(), AllocError> {
     let parts = line_parts(alloc, line)?;
     let id = format!(in alloc; "L{}", line.number)?;
-    let class = line_class(line.hit.is_some());
-    push_classed(html, class, &id, &parts)?;
-    html.words("\n")
+    push_classed(html, line_class(line.hit.is_some()), &id, &parts)
 }
 
 fn line_class(is_hit: bool) -> &'static str {
@@ -60,39 +78,51 @@ fn push_classed<'a>(
     id: &'a str,
     parts: &Html,
 ) -> Result<(), AllocError> {
-    html.around(Tag::Div, &[(Key::Class, class), (Key::Id, id)], parts)
+    html.around(Tag::Div, &[(Key::Class, class), (Key::Id, id)], parts)?;
+    html.words("\n")
 }
 
 // Its number, its code and what is said of it.
 fn line_parts(alloc: Global, line: &Line<'_>) -> Result<Html, AllocError> {
-    let link = line_link(alloc, line.number)?;
-    let number = digits(alloc, line.number)?;
-    let code = code(alloc, line)?;
     let mut html = Html::new(alloc);
-    html.element(Tag::A, &[(Key::Href, &link)], &number)?;
-    html.element(Tag::Span, &[(Key::Class, "indent")], line.indent)?;
-    html.around(Tag::Span, &[(Key::Class, "code")], &code)?;
-    html.element(Tag::Span, &[(Key::Class, "times")], line.times)?;
+    push_number(alloc, &mut html, line.number)?;
+    push_words(alloc, &mut html, line)?;
     Ok(html)
 }
 
-// Its code, and the way to the cause where a bound fails at it.
-fn code(alloc: Global, line: &Line<'_>) -> Result<Html, AllocError> {
-    let mut html = Html::new(alloc);
+fn push_number(alloc: Global, html: &mut Html, number: u32) -> Result<(), AllocError> {
+    let link = line_link(alloc, number)?;
+    let number = digits(alloc, number)?;
+    html.element(Tag::A, &[(Key::Href, &link)], &number)
+}
+
+fn push_words(alloc: Global, html: &mut Html, line: &Line<'_>) -> Result<(), AllocError> {
+    html.element(Tag::Span, &[(Key::Class, "indent")], line.indent)?;
+    push_spans(alloc, html, line)?;
+    html.element(Tag::Span, &[(Key::Class, "times")], line.times)
+}
+
+fn push_spans(alloc: Global, html: &mut Html, line: &Line<'_>) -> Result<(), AllocError> {
+    let mut code = Html::new(alloc);
+    push_each(alloc, &mut code, line)?;
+    html.around(Tag::Span, &[(Key::Class, "code")], &code)
+}
+
+// Appends the parts of a line, and the way to the cause where a bound fails at it.
+fn push_each(alloc: Global, html: &mut Html, line: &Line<'_>) -> Result<(), AllocError> {
     for span in line.spans {
-        push_span(&mut html, span)?;
+        push_span(html, span)?;
     }
-    if let Some(function) = line.hit {
-        push_way(alloc, &mut html, function)?;
+    match line.hit {
+        Some(function) => push_way(alloc, html, function),
+        None => Ok(()),
     }
-    Ok(html)
 }
 
 // Appends the way to why a function has no bound.
 fn push_way(alloc: Global, html: &mut Html, function: &str) -> Result<(), AllocError> {
     let link = cause_link(alloc, function)?;
-    let words = format!(in alloc; "why {function} has no bound")?;
-    html.words("  ")?;
+    let words = format!(in alloc; " why {function} has no bound")?;
     html.element(Tag::A, &[(Key::Class, "none"), (Key::Href, &link)], &words)
 }
 
@@ -112,19 +142,40 @@ fn class_of(look: Look) -> Option<&'static str> {
     }
 }
 
-// The bounds of functions that begin in these lines.
-fn margin(alloc: Global, functions: &[Function<'_>]) -> Result<Html, AllocError> {
-    let mut html = Html::new(alloc);
+fn push_margin(
+    alloc: Global,
+    html: &mut Html,
+    functions: &[Function<'_>],
+) -> Result<(), AllocError> {
+    let mut bounds = Html::new(alloc);
+    push_functions(alloc, &mut bounds, functions)?;
+    html.around(Tag::Dl, &[(Key::Class, "margin")], &bounds)
+}
+
+// Appends the bounds of functions that begin in these lines, with their names where there are several.
+fn push_functions(
+    alloc: Global,
+    html: &mut Html,
+    functions: &[Function<'_>],
+) -> Result<(), AllocError> {
     for function in functions {
         if functions.len() > 1 {
-            html.element(Tag::Dt, &[(Key::Class, "mono")], function.name)?;
-            html.element(Tag::Dd, &[], "")?;
+            push_name(html, function.name)?;
         }
-        push_bound(alloc, &mut html, "ticks", &function.ticks)?;
-        push_bound(alloc, &mut html, "cells", &function.cells)?;
-        push_bound(alloc, &mut html, "work", &function.work)?;
+        push_bounds(alloc, html, function)?;
     }
-    Ok(html)
+    Ok(())
+}
+
+fn push_name(html: &mut Html, name: &str) -> Result<(), AllocError> {
+    html.element(Tag::Dt, &[(Key::Class, "mono")], name)?;
+    html.element(Tag::Dd, &[], "")
+}
+
+fn push_bounds(alloc: Global, html: &mut Html, function: &Function<'_>) -> Result<(), AllocError> {
+    push_bound(alloc, html, "ticks", &function.ticks)?;
+    push_bound(alloc, html, "cells", &function.cells)?;
+    push_bound(alloc, html, "work", &function.work)
 }
 
 fn push_bound(

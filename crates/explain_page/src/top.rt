@@ -3,43 +3,63 @@ use crate::page::Page;
 use explain_html::{Html, Key, Tag};
 use std::alloc::{AllocError, Global};
 
-/// The name of the source, what was found, and the way to the parts.
-pub(crate) fn top(alloc: Global, page: &Page<'_>) -> Result<Html, AllocError> {
-    let mut parts = Html::new(alloc);
-    parts.element(Tag::H1, &[], page.name)?;
-    parts.element(Tag::P, &[(Key::Class, "about")], page.about)?;
-    parts.element(Tag::P, &[(Key::Class, "verdict")], page.verdict)?;
-    let links = links(alloc, page)?;
-    parts.around(Tag::Nav, &[(Key::Label, "Parts of this report")], &links)?;
+/// Appends the name of the source, what was found, and the way to the parts.
+pub(crate) fn push_top(alloc: Global, html: &mut Html, page: &Page<'_>) -> Result<(), AllocError> {
+    let parts = parts(alloc, page)?;
+    html.around(Tag::Header, &[], &parts)
+}
+
+fn parts(alloc: Global, page: &Page<'_>) -> Result<Html, AllocError> {
     let mut html = Html::new(alloc);
-    html.around(Tag::Header, &[], &parts)?;
+    push_parts(alloc, &mut html, page)?;
     Ok(html)
+}
+
+fn push_parts(alloc: Global, html: &mut Html, page: &Page<'_>) -> Result<(), AllocError> {
+    html.element(Tag::H1, &[], page.name)?;
+    html.element(Tag::P, &[(Key::Class, "about")], page.about)?;
+    html.element(Tag::P, &[(Key::Class, "verdict")], page.verdict)?;
+    push_nav(alloc, html, page)
+}
+
+fn push_nav(alloc: Global, html: &mut Html, page: &Page<'_>) -> Result<(), AllocError> {
+    let links = links(alloc, page)?;
+    html.around(Tag::Nav, &[(Key::Label, "Parts of this report")], &links)
 }
 
 // The ways to the parts.
 fn links(alloc: Global, page: &Page<'_>) -> Result<Html, AllocError> {
     let mut html = Html::new(alloc);
-    push_link(&mut html, "#bounds", "Bounds")?;
+    push_links(&mut html, page)?;
+    Ok(html)
+}
+
+fn push_links(html: &mut Html, page: &Page<'_>) -> Result<(), AllocError> {
+    push_link(html, "#bounds", "Bounds")?;
     if page.causes.is_some() {
-        push_link(&mut html, "#missing", "Missing bounds")?;
+        push_link(html, "#missing", "Missing bounds")?;
     }
-    push_link(&mut html, "#promise", "What is promised")?;
+    push_link(html, "#promise", "What is promised")?;
+    push_try(html, page.first)?;
+    push_link(html, "#source", "Source")?;
+    push_link(html, "#measured", "Measured runs")
+}
+
+fn push_link(html: &mut Html, to: &str, words: &str) -> Result<(), AllocError> {
+    html.element(Tag::A, &[(Key::Href, to)], words)?;
+    html.words(" ")
+}
+
+// Appends the way to the calculator, which the script shows.
+fn push_try(html: &mut Html, function: &str) -> Result<(), AllocError> {
     html.element(
         Tag::A,
         &[
-            (Key::Function, page.first),
+            (Key::Function, function),
             (Key::Href, "#try"),
             (Key::Hidden, ""),
         ],
         "Try sizes",
     )?;
-    html.words(" ")?;
-    push_link(&mut html, "#source", "Source")?;
-    push_link(&mut html, "#measured", "Measured runs")?;
-    Ok(html)
-}
-
-fn push_link(html: &mut Html, to: &str, words: &str) -> Result<(), AllocError> {
-    html.element(Tag::A, &[(Key::Href, to)], words)?;
     html.words(" ")
 }
