@@ -1,0 +1,3 @@
+pub mod Advice
+pub mod Changes
+pub mod Information
