@@ -11,7 +11,6 @@ use crate::information::information;
 use explain_reasons::Explained;
 use explain_sentences::sentences;
 use lsp_language::Insight;
-use raml_syntax::Pos;
 use std::alloc::{AllocError, Global};
 
 /// Adds to what is known of a program why groups of its functions have no bound: of each an information at the first place that
@@ -50,12 +49,14 @@ fn add_group(
         explained.now insight.old insight.new) }
 {
     let sentences = sentences(alloc, advised.program, explained)?;
-    let mut at = Pos(0);
-    if let [first, others @ ..] = sentences.as_slice() {
-        at = first.at;
-        let told = information(alloc, advised, explained, first, others)?;
-        insight.diagnostics.push(told)?;
+    match sentences.as_slice() {
+        [] => Ok(()),
+        [first, others @ ..] => {
+            let told = information(alloc, advised, explained, first, others)?;
+            insight.diagnostics.push(told)?;
+            let change = change_of(&explained.reason);
+            let (source, fun) = (advised.source, explained.fun);
+            push_change(alloc, &mut insight.actions, source, change, fun, first.at)
+        }
     }
-    let change = change_of(&explained.reason);
-    push_change(alloc, &mut insight.actions, advised.source, change, explained.fun, at)
 }

@@ -1,15 +1,21 @@
 // What is told of a source.
-ghost use Rattle.std.specs.Prelude.{◌≡◌, ◌≤◌, ◌<◌, ◌++◌, codes, decimal, length, string_bytes, IfOk};
+ghost use Rattle.std.specs.Prelude.{◌≡◌, ◌≤◌, ◌<◌, ◌++◌, List, codes, decimal, length, string_bytes, IfOk, OnOk};
 ghost use Rattle.lsp_language.specs.declared.insight.Severity.TheVariants as severity;
 ghost use Rattle.raml_syntax.specs.Read.{program_of};
 ghost use Rattle.explain_check.specs.Checks.{IsProgramOf, most_bytes};
+ghost use Rattle.explain_advice.specs.Advice.{IsAdvised};
 ghost use Rattle.explain_faults.specs.Faults.{IsFirst};
-ghost use Rattle.explain_language.specs.Told.{IsAnalysed, IsFaulty, IsLong, IsTold};
+ghost use Rattle.explain_reasons.specs.Explanation.{AreReasons};
+ghost use Rattle.explain_reasons.specs.declared.reason.Explained.{Explained};
+ghost use Rattle.explain_language.specs.Told.{IsAnalysed, IsFaulty, IsLong, IsTold, most_tried};
 
+use explain_advice::{Advised, add_advice};
 use explain_bounds::laws::findings_can_be_told;
 use explain_check::MOST_BYTES;
+use explain_degrees::Findings;
 use explain_faults::{Found, SourceFault, fault_insight, found_in};
 use explain_insight::program_insight;
+use explain_reasons::{Silent, reasons_of};
 use explain_trials::found_of;
 use lsp_language::{Diagnostic, Insight, Severity, Span};
 use simple_types::Typed;
@@ -42,7 +48,33 @@ fn typed_insight(
 {
     let found = found_of(alloc, typed, most)?;
     findings_can_be_told();
-    program_insight(alloc, source, typed.program(), &found.functions)
+    let mut insight = program_insight(alloc, source, typed.program(), &found.functions)?;
+    advise(alloc, &mut insight, source, typed, &found.functions)?;
+    Ok(insight)
+}
+
+/// Adds why functions have no bound, where analyses found this of the program.
+fn advise(
+    alloc: Global,
+    insight: &mut Insight,
+    source: &[u8],
+    typed: &Typed,
+    found: &[Findings],
+) -> Result<(), AllocError>
+    requires spelled { IsProgramOf source.now (program_of typed.now) }
+    requires count { length found.now ≡ length (program_of typed.now) }
+    ensures { OnOk result ((reasons : List Explained)
+        × AreReasons source.now (program_of typed.now) found.now most_tried reasons
+        × IsAdvised source.now (program_of typed.now) found.now reasons insight.old insight.new) }
+{
+    findings_can_be_told();
+    let reasons = reasons_of(alloc, source, typed, found, &mut Silent)?;
+    let advised = Advised {
+        source,
+        program: typed.program(),
+        found,
+    };
+    add_advice(alloc, insight, &advised, &reasons)
 }
 
 /// What is told of a source with this fault.
