@@ -35,7 +35,8 @@ information head next lines s others = record {
   severity = severity.Information;
   code = Some (codes "no-bound");
   message = words head s.text lines;
-  related = map (headed next) others }
+  related = map (headed next) others;
+}
 
 -- of all, where there are any
 abbrev pub of_sentences : Text → Text → Text → List Sentence → List Information
@@ -65,7 +66,8 @@ information_in d = record {
   severity = d.severity;
   code = option_map string_bytes d.code;
   message = string_bytes d.message;
-  related = relations_in d.related.items }
+  related = relations_in d.related.items;
+}
 
 abbrev pub informations_in : List Diagnostic → List Information
 informations_in = map information_in
