@@ -41,6 +41,6 @@ fn of_analyses<'a>(alloc: Global) -> Result<Command<'a>, AllocError>
         alloc,
         "budget",
         "PIVOTS",
-        "Gives up an analysis that takes more pivots; 100000 where none is told",
+        "Gives up an analysis that takes more pivots; 20000 where none is told",
     ))
 }

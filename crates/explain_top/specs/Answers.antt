@@ -257,7 +257,7 @@ said_of cause = []
 -- asked for, and why functions have none.
 abbrev pub IsEditorServed : LspWords → Streams → Streams → Sink → Status → Type 0
 IsEditorServed words start last err status =
-    (end : SessionEnd) × IsServed (language.IsTold (min words.degree 4)) start last end × (status ≡ status_of_session end) × Writes (said_of end) err
+    (end : SessionEnd) × IsServed (language.IsTold (min words.degree 4) words.pivots) start last end × (status ≡ status_of_session end) × Writes (said_of end) err
 
 -- ---- requests
 

@@ -26,6 +26,7 @@ pub(crate) fn serve_editor<I: Read, O: Sink, E: Sink>(
 {
     let programs = Programs {
         degree: words.degree,
+        pivots: words.pivots,
     };
     let end = serve(alloc, input, &programs, out);
     write_report(err, said_of(end));

@@ -184,7 +184,7 @@ MeansProfile rows other = ⊥
 
 -- the pivots that are given, or many
 abbrev pub pivots_or_many : Option Text → Option ℕ
-pivots_or_many None = Some 100000
+pivots_or_many None = Some 20000
 pivots_or_many (Some word) = pivots_in word
 
 -- what `lsp` asks for

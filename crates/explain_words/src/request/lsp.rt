@@ -48,7 +48,7 @@ fn words_of<'a>(found: &ArgMatches<'a>) -> Result<LspWords<'a>, Mistake>
 }
 
 // How many pivots an analysis may take where none are told.
-const MANY: usize = 100_000;
+const MANY: usize = 20_000;
 
 // The pivots that are given, or many.
 fn pivots_or_many(word: Option<&str>) -> Result<usize, Mistake>
