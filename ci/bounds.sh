@@ -38,7 +38,11 @@ keeps() {
   status=$?
   kept=$((kept + $(grep -c '^[^ ]* [^ ]* kept: ' <<<"$said")))
   [ $status -eq 0 ] && return
-  echo "$1: the program does not keep its bounds (status $status)"
+  if [ $status -eq 1 ]; then
+    echo "$1: the program does not keep its bounds (status $status)"
+  else
+    echo "$1: the bounds could not be checked (status $status)"
+  fi
   grep -v '^[^ ]* [^ ]* kept: ' <<<"$said" | sed 's/^/  /'
   return 1
 }

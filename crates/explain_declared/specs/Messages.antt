@@ -14,7 +14,7 @@ meter_in line = before_mark 32 (behind_mark 32 line)
 
 -- of a line, at a degree
 abbrev pub message_of : Text → ℕ → LineFault → Text
-message_of line d Shape = codes "no line 'NAME METER <= BOUND'"
+message_of line d Shape = codes "a line has the form 'NAME METER <= BOUND', with a bound as `raml analyse` prints it"
 message_of line d Number = codes "a coefficient is 0 or more than 2^127 - 1"
 message_of line d Unknown = codes "there is no function '" ++ (name_in line ++ codes "'")
 message_of line d Index = codes "a pattern is none of " ++ (name_in line ++ (codes "'s parameters up to degree " ++ decimal d))

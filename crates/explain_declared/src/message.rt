@@ -16,7 +16,10 @@ pub(crate) fn message(
     ensures { IfOk result (λ text. string_bytes text ≡ message_of line.now degree fault) }
 {
     match fault {
-        LineFault::Shape => String::from_str(alloc, "no line 'NAME METER <= BOUND'"),
+        LineFault::Shape => String::from_str(
+            alloc,
+            "a line has the form 'NAME METER <= BOUND', with a bound as `raml analyse` prints it",
+        ),
         LineFault::Number => String::from_str(alloc, "a coefficient is 0 or more than 2^127 - 1"),
         LineFault::Unknown => unknown(alloc, name_in(line)),
         LineFault::Index => no_pattern(alloc, name_in(line), degree),

@@ -14,7 +14,7 @@ pub(crate) fn guess(alloc: Global, site: Site, hint: Hint) -> Result<Option<Edit
         Hint::Case(CaseHint::NoBar) => Ok(Some(site.edit(alloc, 0, 1, "")?)),
         Hint::Case(CaseHint::Arrow) => arrow_edit(alloc, site),
         Hint::Type(TypeHint::Order) => order_edit(alloc, site),
-        Hint::Case(_) | Hint::Pair(_) | Hint::Type(_) => Ok(None),
+        Hint::Bits(_) | Hint::Case(_) | Hint::Pair(_) | Hint::Type(_) => Ok(None),
     }
 }
 

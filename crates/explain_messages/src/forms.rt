@@ -1,5 +1,6 @@
 // Hints for tokens that can not stand.
 use crate::around::Around;
+use crate::bits::bit_hint;
 use crate::cases::{arrow_hint, first_case_hint, keyword_hint, pattern_hint};
 use crate::hint::{CaseHint, FormHint, Hint, PairHint, SignHint, TypeHint};
 use crate::need::{Need, begins_form, begins_operand, is_operator};
@@ -8,6 +9,7 @@ use crate::signs::{sign_hint, word_hint};
 /// The hint for the token at the place, which can not stand there.
 pub fn token_hint(around: &Around) -> Option<Hint> {
     sign_hint(around)
+        .or(bit_hint(around))
         .or(word_hint(around))
         .or(need_hint(around))
         .or(operand_hint(around))

@@ -4,6 +4,7 @@
 #[derive(Clone, Copy, PartialEq, Eq, Debug)]
 pub enum Hint {
     Sign(SignHint),
+    Bits(BitHint),
     Word(WordHint),
     Form(FormHint),
     Case(CaseHint),
@@ -16,6 +17,7 @@ impl Hint {
     pub fn text(self) -> &'static str {
         match self {
             Hint::Sign(hint) => hint.text(),
+            Hint::Bits(hint) => hint.text(),
             Hint::Word(hint) => hint.text(),
             Hint::Form(hint) => hint.text(),
             Hint::Case(hint) => hint.text(),
@@ -59,6 +61,40 @@ impl SignHint {
             SignHint::Assignment => "a variable keeps its value: write `let x = a in b`",
             SignHint::Semicolon => "a `let` ends with `in`: write `let x = a in b`",
             SignHint::Comment => "a comment is written `(* .. *)`",
+        }
+    }
+}
+
+/// Operators on bits, which there are none of, and numbers in other bases.
+#[derive(Clone, Copy, PartialEq, Eq, Debug)]
+pub enum BitHint {
+    And,
+    Or,
+    Xor,
+    Not,
+    Shift,
+    Decimal,
+}
+
+impl BitHint {
+    fn text(self) -> &'static str {
+        match self {
+            BitHint::And => {
+                "there are no operators on bits: `a mod 256` is `a & 255` where `a` is not below 0"
+            }
+            BitHint::Or => {
+                "there are no operators on bits: an or goes bit by bit, by `mod 2` and `div 2`"
+            }
+            BitHint::Xor => {
+                "there are no operators on bits: an exclusive or goes bit by bit, by `mod 2` and `div 2`"
+            }
+            BitHint::Not => {
+                "there are no operators on bits: write `0 - a - 1` for `~a`, and `0 - a` for a minus"
+            }
+            BitHint::Shift => {
+                "there are no operators on bits: write `a div 2` for `a >> 1`, and `a * 2` for `a << 1`"
+            }
+            BitHint::Decimal => "numbers are decimal: write `255` for `0xff`",
         }
     }
 }

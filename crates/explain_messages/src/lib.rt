@@ -2,6 +2,7 @@
 #![tactic(auto)]
 
 mod around;
+mod bits;
 mod cases;
 mod forms;
 mod hint;
@@ -14,7 +15,7 @@ mod syntax;
 mod types;
 mod word;
 
-pub use hint::{CaseHint, FormHint, Hint, PairHint, SignHint, TypeHint, WordHint};
+pub use hint::{BitHint, CaseHint, FormHint, Hint, PairHint, SignHint, TypeHint, WordHint};
 pub use message::Message;
 pub use syntax::syntax_message;
 pub use types::type_message;

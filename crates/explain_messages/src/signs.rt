@@ -1,6 +1,7 @@
 // Hints for signs of other languages.
 use crate::around::Around;
-use crate::hint::{CaseHint, FormHint, Hint, PairHint, SignHint, WordHint};
+use crate::bits;
+use crate::hint::{BitHint, CaseHint, FormHint, Hint, PairHint, SignHint, WordHint};
 use crate::need::Need;
 
 /// The hint for a character that is not in the language.
@@ -9,19 +10,20 @@ pub fn character_hint(around: &Around) -> Option<Hint> {
     match first {
         b'[' | b']' => Some(Hint::Sign(SignHint::Brackets)),
         b'>' => Some(greater_hint(around)),
-        b'&' => Some(Hint::Word(WordHint::And)),
+        b'&' => Some(bits::and_hint(around)),
         b'!' => Some(not_hint(around)),
         b'/' => Some(Hint::Sign(slash_hint(around))),
         b'%' => Some(Hint::Sign(SignHint::Remainder)),
         b'#' => Some(number_sign_hint(around)),
         b';' => Some(semicolon_hint(around)),
-        b'@' | b'^' => Some(Hint::Sign(SignHint::Append)),
-        b'~' => Some(Hint::Sign(SignHint::Minus)),
+        b'@' => Some(Hint::Sign(SignHint::Append)),
+        b'^' => Some(Hint::Bits(BitHint::Xor)),
+        b'~' => Some(bits::not_hint(around)),
         _ => letter_hint(around, first),
     }
 }
 
-// The hint for a `>`, alone or in `>=`, `<>`, `=>` and `|>`.
+// The hint for a `>`, alone or in `>=`, `<>`, `=>`, `|>` and `>>`.
 fn greater_hint(around: &Around) -> Hint {
     if around.before.ends_with(b"<") {
         Hint::Sign(SignHint::Unequal)
@@ -29,6 +31,8 @@ fn greater_hint(around: &Around) -> Hint {
         arrow_hint(around)
     } else if around.before.ends_with(b"|") {
         Hint::Form(FormHint::Application)
+    } else if around.rest.starts_with(b">>") {
+        Hint::Bits(BitHint::Shift)
     } else if around.rest.starts_with(b">=") {
         Hint::Sign(SignHint::AtLeast)
     } else {
@@ -87,6 +91,7 @@ fn semicolon_hint(around: &Around) -> Hint {
 fn letter_hint(around: &Around, first: u8) -> Option<Hint> {
     match first {
         b'_' => Some(Hint::Word(WordHint::Underscore)),
+        b'A'..=b'F' if bits::is_in_number(around) => Some(Hint::Bits(BitHint::Decimal)),
         b'A'..=b'Z' => Some(Hint::Word(WordHint::Capital)),
         b'"' | b'\'' | b'`' => Some(Hint::Word(WordHint::Letters)),
         b'\\' => Some(Hint::Form(FormHint::NoValue)),
