@@ -1,4 +1,3 @@
 pub mod Advice
 pub mod Changes
-pub mod GivenUp
 pub mod Information

@@ -133,11 +133,8 @@ abbrev pub profile_app : App
 profile_app =
     with_rule (with_rule (with_rule profile_file (option_rule (codes "function"))) (option_rule (codes "degree"))) (option_rule (codes "at"))
 
-abbrev pub lsp_analyses : App
-lsp_analyses = with_rule (with_rule (new_app (codes "lsp")) (option_rule (codes "degree"))) (option_rule (codes "budget"))
-
 abbrev pub lsp_app : App
-lsp_app = with_rule lsp_analyses (option_rule (codes "log"))
+lsp_app = with_rule (new_app (codes "lsp")) (option_rule (codes "degree"))
 
 -- the program before it has commands
 abbrev pub bare : App

@@ -2,7 +2,7 @@
 ghost use Rattle.std.specs.Prelude.{◌≡◌, false, IfOk};
 ghost use Rattle.clap.specs.Simple.{app_of};
 ghost use Rattle.clap.specs.declared.builder.command.Command.TheViews.{out-Command as fields_of};
-ghost use Rattle.explain_commands.specs.Apps.{lsp_analyses, lsp_app};
+ghost use Rattle.explain_commands.specs.Apps.{lsp_app};
 
 use crate::option;
 use clap::Command;
@@ -12,35 +12,15 @@ pub fn command<'a>(alloc: Global) -> Result<Command<'a>, AllocError>
     ensures app { IfOk result (λ command. app_of command ≡ lsp_app) }
     ensures local { IfOk result (λ command. (fields_of command).has_globals ≡ false) }
 {
-    let command = of_analyses(alloc)?;
-    command.arg(option(
-        alloc,
-        "log",
-        "FILE",
-        "Leaves the messages of the session in this file when it ends",
-    ))
-}
-
-// With what analyses may do.
-fn of_analyses<'a>(alloc: Global) -> Result<Command<'a>, AllocError>
-    ensures app { IfOk result (λ command. app_of command ≡ lsp_analyses) }
-    ensures local { IfOk result (λ command. (fields_of command).has_globals ≡ false) }
-{
     let command = Command::new(alloc, "lsp")
         .about("Serves an editor by the Language Server Protocol, on standard input and output")
         .after_help(
-            "Statuses: 0 where the editor shuts the server down before it ends it, 1 where not, 2 where what it sends is no message or the log can't be left, 12 where it can't be answered.",
+            "Statuses: 0 where the editor shuts the server down before it ends it, 1 where not, 2 where what it sends is no message, 12 where it can't be answered.",
         );
-    let with_degree = command.arg(option(
+    command.arg(option(
         alloc,
         "degree",
         "D",
         "Tries the degrees up to D, 1 to 4; 4 where none is told",
-    ))?;
-    with_degree.arg(option(
-        alloc,
-        "budget",
-        "PIVOTS",
-        "Gives up an analysis that takes more pivots; 20000 where none is told",
     ))
 }
