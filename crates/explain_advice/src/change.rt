@@ -8,7 +8,7 @@ ghost use Rattle.explain_advice.specs.Changes.{IsChange, IsOffered, IsTellable, 
 
 use crate::difference::difference;
 use explain_inline::How;
-use explain_insight::brief;
+use explain_insight::brief_bounds;
 use explain_reasons::Reason;
 use explain_trials::Trial;
 use lsp_language::{Action, Edit, Span};
@@ -128,7 +128,7 @@ fn title(alloc: Global, change: Change<'_>, fun: FunId) -> Result<Option<String>
     let Some(found) = change.trial.found.functions.get(place) else {
         return Ok(None);
     };
-    let bounds = brief(alloc, function, found)?;
+    let bounds = brief_bounds(alloc, function, found)?;
     let done = change.name;
     let name = name_at(program, fun);
     Ok(Some(format!(in alloc; "{done}: `{name}` {bounds}")?))

@@ -1,5 +1,5 @@
 use Rattle.cost_free.specs.declared.task.Meter.TheVariants.{Ticks, Cells, Work}
-use Rattle.explain_insight.proofs.brief.brief.Goals as goal
+use Rattle.explain_insight.proofs.brief.brief_bounds.Goals as goal
 
 pub push_brief-requires : goal.push_brief-requires
 push_brief-requires c = c.requires Ticks
