@@ -28,9 +28,14 @@ use std::alloc::{AllocError, Global};
 
 /// How often a region is run at most.
 #[derive(Debug, Drop)]
-pub(crate) enum Runs {
-    /// So often, by a sum in algebra, which is this at the sizes that are given, where it is at most 2^127.
-    AtMost { sum: String, at: Option<u128> },
+pub enum Runs {
+    /// So often, by a sum in algebra and what the names in it mean. The sum is this at the sizes that are given, where that is at
+    /// most 2^127.
+    AtMost {
+        sum: String,
+        legend: String,
+        at: Option<u128>,
+    },
     /// No bound is found.
     NoBound,
     /// No analysis can be made.
@@ -77,6 +82,7 @@ fn at_most(
     let reading = read_bound(alloc, poly, &types, &names)?;
     Ok(Runs::AtMost {
         sum: reading.sum,
+        legend: reading.legend,
         at: value(poly, sizes),
     })
 }
@@ -133,7 +139,7 @@ fn runs_in(alloc: Global, case: Case<'_>, typed: &Typed) -> Result<Runs, AllocEr
 }
 
 /// The typed program that a text spells. None where `raml` refuses the text, or it is longer than a source may be.
-fn program_in(alloc: Global, text: &[u8]) -> Result<Option<Typed>, AllocError>
+pub fn program_in(alloc: Global, text: &[u8]) -> Result<Option<Typed>, AllocError>
     ensures { IfOk result (SpellsIt text.now) }
 {
     if text.len() as u64 > MOST_BYTES {
@@ -155,7 +161,7 @@ fn runs_by(alloc: Global, case: Case<'_>, changed: &[u8]) -> Result<Runs, AllocE
 }
 
 /// How often the region that begins there is run at most.
-pub(crate) fn runs_of_region(alloc: Global, case: Case<'_>, region: Pos) -> Result<Runs, AllocError>
+pub fn runs_of_region(alloc: Global, case: Case<'_>, region: Pos) -> Result<Runs, AllocError>
     requires most { case.most ≤ 4 }
     requires lexed { IsLexed case.source.now }
     ensures { IfOk result (AreRunsAt (case_of case.entry) region.0) }
