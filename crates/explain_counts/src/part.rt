@@ -7,6 +7,13 @@ ghost use Rattle.explain_counts.specs.Parts.{part_of};
 use explain_places::line_at;
 use lsp_language::Span;
 
+/// Whether it is a space or a tab.
+fn is_blank(byte: u8) -> bool
+    ensures { result ≡ p.is_blank byte }
+{
+    byte == b' ' || byte == b'\t'
+}
+
 /// How many blanks stand at the front.
 fn indentation(line: &[u8]) -> usize
     ensures count { result ≡ p.indentation line.now }
@@ -14,7 +21,7 @@ fn indentation(line: &[u8]) -> usize
 {
     let mut count = 0;
     for byte in line {
-        if *byte != b' ' && *byte != b'\t' {
+        if !is_blank(*byte) {
             return count;
         }
         count += 1;
