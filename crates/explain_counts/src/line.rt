@@ -38,12 +38,7 @@ fn first_of(part: Span, lines: &[Line]) -> Option<Line>
 }
 
 /// The first line of the body of a function that begins on the part.
-fn line_of(
-    alloc: Global,
-    source: &[u8],
-    part: Span,
-    fun: &Fun,
-) -> Result<Option<Line>, AllocError>
+fn line_of(alloc: Global, source: &[u8], part: Span, fun: &Fun) -> Result<Option<Line>, AllocError>
     ensures { IfOk result (λ line. option_map plain_line line ≡ line_of source.now part (function_of fun.now)) }
 {
     let lines = lines(alloc, source, &fun.body)?;

@@ -35,7 +35,9 @@ fn line_start(source: &[u8], place: usize) -> usize
     ensures within { result ≤ length source.now }
 {
     let before = &source[..place.min(source.len())];
-    before.len().saturating_sub(line_at(before, before.len()).len())
+    before
+        .len()
+        .saturating_sub(line_at(before, before.len()).len())
 }
 
 /// The line of a byte, without its indentation and the newline at its end.

@@ -22,12 +22,7 @@ impl Language for Programs {
         source_insight(alloc, text.as_bytes(), self.degree.min(4))
     }
 
-    fn hover(
-        &self,
-        alloc: Global,
-        text: &str,
-        offset: usize,
-    ) -> Result<Option<Hover>, AllocError> {
+    fn hover(&self, alloc: Global, text: &str, offset: usize) -> Result<Option<Hover>, AllocError> {
         line_hover(alloc, text.as_bytes(), self.degree.min(4), offset)
     }
 }

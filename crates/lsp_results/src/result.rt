@@ -45,14 +45,7 @@ fn value_of<L: Language>(
     match ask {
         Ask::Hover(position) => {
             let place = document.offset(encoding, position);
-            hover_at(
-                alloc,
-                language,
-                encoding,
-                document,
-                place,
-                &insight.hovers,
-            )
+            hover_at(alloc, language, encoding, document, place, &insight.hovers)
         }
         Ask::Lenses => lenses_value(alloc, encoding, document, &insight.lenses),
         Ask::Hints(range) => {
