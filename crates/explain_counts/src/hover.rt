@@ -1,7 +1,6 @@
 // What is shown on the line of a byte.
 ghost use Rattle.std.specs.Prelude.{◌≡◌, ◌≤◌, IfOk};
 ghost use Rattle.raml_syntax.specs.Read.{program_of};
-ghost use Rattle.explain_check.specs.Checks.{IsProgramOf};
 ghost use Rattle.explain_regions.specs.Counter.{IsLexed};
 ghost use Rattle.explain_counts.specs.Hovers as h;
 ghost use Rattle.explain_counts.specs.Hovers.{IsLineHover, IsShown, IsToldAt, line_there};
@@ -14,7 +13,7 @@ use crate::line::{NamedLine, first_begun};
 use crate::part::part_of;
 use explain_profile::{Case, program_in};
 use lsp_language::{Hover, Span};
-use simple_types::Typed;
+use raml_syntax::Program;
 use std::alloc::{AllocError, Global};
 
 /// Whether the byte stands on the part.
@@ -49,18 +48,18 @@ fn hover_of(
 }
 
 /// What is shown on the part of a line of a program.
+#[tactic(auto, using(crate::proofs::Shown::shown, crate::proofs::Shown::not_shown))]
 fn part_hover(
     alloc: Global,
     source: &[u8],
-    typed: &Typed,
+    program: &Program,
     most: u8,
     part: Span,
 ) -> Result<Option<Hover>, AllocError>
     requires most { most ≤ 4 }
     requires lexed { IsLexed source.now }
-    ensures { IfOk result (IsShown most source.now part (first_begun source.now part (program_of typed.now))) }
+    ensures { IfOk result (IsShown most source.now part (first_begun source.now part (program_of program.now))) }
 {
-    let program = typed.program();
     match first_begun(alloc, source, part, &program.funs)? {
         Some(found) => Ok(Some(hover_of(alloc, source, most, part, found)?)),
         None => Ok(None),
@@ -68,20 +67,21 @@ fn part_hover(
 }
 
 /// What is shown at a byte of the source of a program.
+#[tactic(auto, using(crate::proofs::Shown::stands, crate::proofs::Shown::stands_beside))]
 fn program_hover(
     alloc: Global,
     source: &[u8],
-    typed: &Typed,
+    program: &Program,
     most: u8,
     place: usize,
 ) -> Result<Option<Hover>, AllocError>
     requires most { most ≤ 4 }
-    requires spelled { IsProgramOf source.now (program_of typed.now) }
-    ensures { IfOk result (IsShown most source.now (part_of source.now place) (line_there source.now place (program_of typed.now))) }
+    requires lexed { IsLexed source.now }
+    ensures { IfOk result (IsShown most source.now (part_of source.now place) (line_there source.now place (program_of program.now))) }
 {
     let part = part_of(source, place);
     if stands_on(part, place) {
-        part_hover(alloc, source, typed, most, part)
+        part_hover(alloc, source, program, most, part)
     } else {
         Ok(None)
     }
@@ -99,7 +99,7 @@ pub fn line_hover(
     ensures { IfOk result (IsToldAt most source.now place) }
 {
     match program_in(alloc, source)? {
-        Some(typed) => program_hover(alloc, source, &typed, most, place),
+        Some(typed) => program_hover(alloc, source, typed.program(), most, place),
         None => Ok(None),
     }
 }

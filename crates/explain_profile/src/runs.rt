@@ -1,5 +1,5 @@
 // How often a region is run at most.
-ghost use Rattle.std.specs.Prelude.{◌≡◌, ◌≤◌, ◌<◌, length, slice_get, Some, All, IfOk};
+ghost use Rattle.std.specs.Prelude.{◌≡◌, ◌≤◌, ◌<◌, length, slice_get, Some, All, IfOk, IfSome};
 ghost use Rattle.raml_syntax.specs.Types.{types_of};
 ghost use Rattle.raml_syntax.specs.Place.{place_of};
 ghost use Rattle.raml_syntax.specs.Read.{program_of, function_of};
@@ -7,6 +7,7 @@ ghost use Rattle.base_poly.specs.Indices.{AreIndices};
 ghost use Rattle.base_poly.specs.Poly.{IsPoly};
 ghost use Rattle.poly_point.specs.Point.{AreLow};
 ghost use Rattle.explain_bounds.specs.Written.{CanBeTold};
+ghost use Rattle.explain_check.specs.Checks.{most_bytes};
 ghost use Rattle.explain_regions.specs.Counter.{IsLexed};
 ghost use Rattle.explain_profile.specs.Runs as r;
 ghost use Rattle.explain_profile.specs.Runs.{AreFound, AreRuns, AreRunsAt, AreRunsIn, IsAt};
@@ -139,8 +140,10 @@ fn runs_in(alloc: Global, case: Case<'_>, typed: &Typed) -> Result<Runs, AllocEr
 }
 
 /// The typed program that a text spells. None where `raml` refuses the text, or it is longer than a source may be.
+#[tactic(auto, using(crate::proofs::Unspelled::kept_short))]
 pub fn program_in(alloc: Global, text: &[u8]) -> Result<Option<Typed>, AllocError>
-    ensures { IfOk result (SpellsIt text.now) }
+    ensures spells { IfOk result (SpellsIt text.now) }
+    ensures short { IfOk result (λ program. IfSome program (λ _. length text.now ≤ most_bytes)) }
 {
     if text.len() as u64 > MOST_BYTES {
         return Ok(None);
