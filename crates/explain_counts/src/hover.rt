@@ -24,12 +24,12 @@ fn stands_on(part: Span, place: usize) -> bool
 }
 
 /// How often a line is run at most by a call of its function, told on a part of the source.
-fn hover_of(
+fn hover_of<'a>(
     alloc: Global,
-    source: &[u8],
+    source: &'a [u8],
     most: u8,
     part: Span,
-    found: NamedLine<'_>,
+    found: NamedLine<'a>,
 ) -> Result<Hover, AllocError>
     requires most { most ≤ 4 }
     requires lexed { IsLexed source.now }
@@ -49,10 +49,10 @@ fn hover_of(
 
 /// What is shown on the part of a line of a program.
 #[tactic(auto, using(crate::proofs::Shown::shown, crate::proofs::Shown::not_shown))]
-fn part_hover(
+fn part_hover<'a>(
     alloc: Global,
-    source: &[u8],
-    program: &Program,
+    source: &'a [u8],
+    program: &'a Program,
     most: u8,
     part: Span,
 ) -> Result<Option<Hover>, AllocError>
@@ -68,10 +68,10 @@ fn part_hover(
 
 /// What is shown at a byte of the source of a program.
 #[tactic(auto, using(crate::proofs::Shown::stands, crate::proofs::Shown::stands_beside))]
-fn program_hover(
+fn program_hover<'a>(
     alloc: Global,
-    source: &[u8],
-    program: &Program,
+    source: &'a [u8],
+    program: &'a Program,
     most: u8,
     place: usize,
 ) -> Result<Option<Hover>, AllocError>

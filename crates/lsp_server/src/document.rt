@@ -108,7 +108,7 @@ impl OpenDocument {
     fn ask<L: Language>(&mut self, alloc: Global, language: &L) -> Result<(), AllocError>
         requires { self.old.known ≡ None }
         ensures learnt { OnOk result ((insight : Insight)
-            × L.tells language.now self.old.content.text insight × (self.new ≡ learnt self.old insight)) }
+            × (L.tells language.now).insight self.old.content.text insight × (self.new ≡ learnt self.old insight)) }
         ensures kept { OnErr result (self.new ≡ self.old) }
     {
         let insight = language.insight(alloc, self.document.text())?;
