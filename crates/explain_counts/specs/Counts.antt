@@ -1,7 +1,8 @@
 -- How often a region is run at most, in Markdown.
 use Rattle.std.specs.Prelude.{◌≡◌, ℕ, [], ◌∷◌, ◌++◌, codes, string_bytes}
 use Rattle.raml_syntax.specs.Tree.{Text}
-use Rattle.explain_profile.specs.Runs.{Case, Runs, AreRunsAt}
+use Rattle.explain_profile.specs.Runs.{Case, AreRunsAt}
+use Rattle.explain_profile.specs.declared.runs.Runs.{Runs}
 use Rattle.explain_profile.specs.declared.runs.Runs.TheVariants as r
 
 -- what names mean, where something has to be said
