@@ -1,5 +1,5 @@
 -- What is shown of a line.
-use Rattle.std.proofs.Common.{◌≡◌, ◌≤◌, ℕ, Bool, true, false, cond, Option, None, Some, Result, Ok, Err, IfOk, length, refl, sym, subst, arith}
+use Rattle.std.proofs.Common.{◌≡◌, ◌≤◌, ℕ, Bool, true, false, cond, Option, None, Some, Result, IfOk, length, refl, subst, arith}
 use Rattle.raml_syntax.specs.Tree.{Text, Prog}
 use Rattle.lsp_language.specs.declared.insight.Hover.{Hover}
 use Rattle.lsp_language.specs.declared.span.Span.{Span}
@@ -7,7 +7,7 @@ use Rattle.explain_check.specs.Checks.{IsProgramOf, most_bytes}
 use Rattle.explain_regions.specs.Counter.{IsLexed}
 use Rattle.explain_counts.specs.Parts.{part_of}
 use Rattle.explain_counts.specs.Lines.{NamedLine, first_begun}
-use Rattle.explain_counts.specs.Hovers.{IsLineHover, IsShown, IsToldAt, line_there, stands_on}
+use Rattle.explain_counts.specs.Hovers.{IsLineHover, IsShown, line_there, stands_on}
 
 -- a line is found, or none
 pub shown : (most : ℕ) (source : Text) (part : Span) (found : NamedLine) (there : Option NamedLine) (hover : Hover) → Some found ≡ there →

@@ -1,5 +1,5 @@
 -- Small texts, worked out by hand.
-use Rattle.std.specs.Prelude.{◌≡◌, ℕ, None, Some, [], ◌∷◌, ◌++◌, codes}
+use Rattle.std.specs.Prelude.{◌≡◌, ℕ, None, Some, [], ◌∷◌, codes}
 use Rattle.lsp_language.specs.declared.span.Span.{Span}
 use Rattle.explain_regions.specs.Lines.{Line}
 use Rattle.explain_profile.specs.declared.runs.Runs.TheVariants as r

@@ -1,5 +1,5 @@
 -- The line of a body that begins on a part of a source.
-use Rattle.std.specs.Prelude.{ℕ, ◌&&◌, nat_le, nat_lt, Bool, cond, List, [], ◌∷◌, Option, None, Some}
+use Rattle.std.specs.Prelude.{◌&&◌, nat_le, nat_lt, Bool, cond, List, [], ◌∷◌, Option, None, Some}
 use Rattle.raml_syntax.specs.Tree.{Text, Function, Prog}
 use Rattle.lsp_language.specs.declared.span.Span.{Span}
 use Rattle.explain_regions.specs.Lines.{Line, lines}

@@ -1,5 +1,5 @@
 -- The line of a byte, without its indentation.
-use Rattle.std.specs.Prelude.{ℕ, suc, ◌+◌, ◌||◌, nat_eq, Bool, cond, List, [], ◌∷◌, length}
+use Rattle.std.specs.Prelude.{ℕ, suc, ◌+◌, ◌||◌, nat_eq, Bool, cond, [], ◌∷◌, length}
 use Rattle.raml_syntax.specs.Tree.{Text}
 use Rattle.lsp_language.specs.declared.span.Span.{Span}
 use Rattle.explain_places.specs.Places.{line_start, line_text}

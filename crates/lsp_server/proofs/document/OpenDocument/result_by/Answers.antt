@@ -1,5 +1,4 @@
-use Rattle.std.proofs.Common.{List, ℕ, IfOk, ap, subst, ◌∙◌}
-use Rattle.std.specs.Prelude.{string_bytes}
+use Rattle.std.proofs.Common.{List, ℕ, IfOk, subst}
 use Rattle.serde_json.specs.View.{view}
 use Rattle.lsp_results.specs.Results.{IsResult}
 use Rattle.lsp_server.specs.State.{Open}
