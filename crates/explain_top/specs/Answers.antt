@@ -36,7 +36,7 @@ use Rattle.explain_plot.specs.Files.{names_of}
 use Rattle.explain_words.specs.declared.request.profile.ProfileWords.{ProfileWords}
 use Rattle.explain_profile_call.specs.Calls as profile
 use Rattle.explain_why.specs.Calls as why
-use Rattle.explain_language.specs.Told as language
+use Rattle.explain_language.specs.Tells as language
 use Rattle.lsp_session.specs.Sessions.{Streams, streams_of, IsServed}
 use Rattle.lsp_session.specs.declared.end.SessionEnd.{SessionEnd}
 use Rattle.lsp_session.specs.declared.end.SessionEnd.TheVariants as session
@@ -255,7 +255,7 @@ said_of cause = []
 -- An editor is served: what it is told of a text is the text's fault, or the bounds of its functions at degrees up to this one.
 abbrev pub IsEditorServed : ℕ → Streams → Streams → Sink → Status → Type 0
 IsEditorServed degree start last err status =
-    (end : SessionEnd) × IsServed (language.IsTold (min degree 4)) start last end × (status ≡ status_of_session end) × Writes (said_of end) err
+    (end : SessionEnd) × IsServed (language.told_by (min degree 4)) start last end × (status ≡ status_of_session end) × Writes (said_of end) err
 
 -- ---- requests
 
