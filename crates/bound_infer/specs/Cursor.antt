@@ -31,4 +31,5 @@ pub record IsOnCourse {F : Type 0} (g : Shared F (Bor (List Frac) × Unit {0}) (
   pub ordered : IsOrdered (program_in inference.program.now)
   pub keeps : Keeps inference.program.now inference.degree inference.run
   pub kept : AreKept (program_in inference.program.now) inference.kept
-  pub reached : ByEach g inference.chooser.now (λ pick. Reached (analysis_in inference.program.now inference.degree pick) (state_of inference.run))
+  pub reached : ByEach g inference.chooser.now
+      (λ pick. Reached (analysis_in inference.program.now inference.degree pick) (state_of inference.run))

@@ -34,7 +34,7 @@ pub record IsCutShort (A : Analysis) (most : Option ℕ) (st : State) : Type 0 w
 abbrev pub CourseTakes : Analysis → List Finding → State → ℕ → Type 0
 CourseTakes A [] st n = (st ≡ start) × (n ≡ 0)
 CourseTakes A (f ∷ fs) st n =
-    (old : State) × (before last : ℕ) × CourseTakes A fs old before × Step A old f st × NextTakes A old last × (n ≡ before + last)
+    (old : State) × (before : ℕ) × (last : ℕ) × CourseTakes A fs old before × Step A old f st × NextTakes A old last × (n ≡ before + last)
 
 -- some do
 pub record ReachedWith (A : Analysis) (st : State) (n : ℕ) : Type 0 where

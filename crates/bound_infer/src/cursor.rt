@@ -105,7 +105,6 @@ impl<'p, 'a, 'c, F: Fn(&[Frac]) -> Option<usize>> Inference<'p, 'a, 'c, F> {
         ensures fault { IfErr result (λ fault. ByEach F.Fn self.entry.chooser.now
             (λ pick. InferCause (analysis_in self.entry.program.now self.entry.degree pick) fault)) }
     {
-        ordered(self.program);
         systems_generate();
         limits_are_told();
         courses_certify();

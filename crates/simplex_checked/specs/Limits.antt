@@ -11,7 +11,8 @@ use Rattle.simplex_checked.specs.declared.answer.Within.TheVariants.{Answered, C
 -- the course by the rule comes to its end with so many pivots: no gain is left, or no row bounds the rule's column
 pub data EndsAfter (rule : Rule) (s : LinearSystem) (n : ℕ) : Type 0 where
   AtEnd : (pivots : List (ℕ × ℕ)) (t : Tableau) → Ends s pivots t → Follows rule s pivots → n ≡ length pivots → EndsAfter rule s n
-  AtRise : (pivots : List (ℕ × ℕ)) (t : Tableau) (column : ℕ) → Rises s pivots t column → Follows rule s pivots → Answers rule s t column → n ≡ length pivots → EndsAfter rule s n
+  AtRise : (pivots : List (ℕ × ℕ)) (t : Tableau) (column : ℕ) → Rises s pivots t column → Follows rule s pivots → Answers rule s t column →
+      n ≡ length pivots → EndsAfter rule s n
 
 -- an answer has its cause, and its course ends after so many pivots, no more than the limit; what is cut goes on after as many as the limit
 abbrev pub IsWithin : Rule → LinearSystem → Option ℕ → Within → Type 0

@@ -15,20 +15,21 @@ checked_solution-requires-clause-least g c =
     let o : IsOutcome rule c.args.system.now c.args.most (Solution here.x here.dual here.pivots) = rw here.is at c.in_ok-x.ensures.outcome in
     rw (c.deref.ensures.value, c.deref-in-Solution.ensures.value) (are_least rule c.args.system.now o.0 here.x.items here.dual.items o.1)
 
-pub returns-in-Solution-clause-within : goal.returns-in-Solution-clause-within
-returns-in-Solution-clause-within g c =
+pub returns-in_ok-answer-in-Solution-clause-within : goal.returns-in_ok-answer-in-Solution-clause-within
+returns-in_ok-answer-in-Solution-clause-within g c =
     let here = c.in-Solution in
     let rule = rule_of g.F.Fn c.args.chooser.now in
     let s = c.args.system.now in
     let o : IsOutcome rule s c.args.most (Solution here.x here.dual here.pivots) = rw here.is at c.in_ok-x.ensures.outcome in
     let cut = rw here.is at c.in_ok-x.ensures.cut in
-    λ pick more. (
+    λ pick more. let w = best_within rule s c.args.most ⊥ cut (λ n. n) o.0 here.x.items here.dual.items here.pivots o.1 o.2 pick more in (
       best_answers c.least_denominators.ensures rule s o.0 here.x.items here.dual.items o.1 _ (rw (c.deref.ensures.value, c.deref-in-Solution.ensures.value) at c.in_ok-answer-in-Solution.ensures.answer) pick more,
-      best_within rule s c.args.most ⊥ cut (λ n. n) o.0 here.x.items here.dual.items here.pivots o.1 o.2 pick more,
+      w.0,
+      w.1,
     )
 
-pub returns-in-Solution-clause-cut : goal.returns-in-Solution-clause-cut
-returns-in-Solution-clause-cut g c =
+pub returns-in_ok-answer-in-Solution-clause-cut : goal.returns-in_ok-answer-in-Solution-clause-cut
+returns-in_ok-answer-in-Solution-clause-cut g c =
     let here = c.in-Solution in
     let rule = rule_of g.F.Fn c.args.chooser.now in
     let s = c.args.system.now in
@@ -53,7 +54,8 @@ returns-in-Refuted-clause-within g c =
     let s = c.args.system.now in
     let o : IsOutcome rule s c.args.most (Refuted here.answer here.pivots) = rw here.is at c.in_ok-x.ensures.outcome in
     let cut = rw here.is at c.in_ok-x.ensures.cut in
-    λ pick more. (vector_ok c.least_denominators.ensures rule s o.0 o.1 o.2 here.answer o.3 pick more, refuted_within rule s c.args.most ⊥ cut (λ n. n) o.0 o.1 here.pivots o.2 o.4 pick more)
+    λ pick more. let w = refuted_within rule s c.args.most ⊥ cut (λ n. n) o.0 o.1 here.pivots o.2 o.4 pick more in
+    (vector_ok c.least_denominators.ensures rule s o.0 o.1 o.2 here.answer o.3 pick more, w.0, w.1)
 
 pub returns-in-Refuted-clause-cut : goal.returns-in-Refuted-clause-cut
 returns-in-Refuted-clause-cut g c =

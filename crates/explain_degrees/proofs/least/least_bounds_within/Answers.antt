@@ -1,7 +1,7 @@
 use Rattle.std.proofs.Common.{arith, ◌∙◌}
 use Rattle.share_normal.specs.Program.{source_in}
 use Rattle.rules_plan.specs.Read.{program_in}
-use Rattle.explain_degrees.proofs.least.least_bounds.Goals as goal
+use Rattle.explain_degrees.proofs.least.least_bounds_within.Goals as goal
 
 pub loop-degree-init : goal.loop-degree-init
 loop-degree-init c =
