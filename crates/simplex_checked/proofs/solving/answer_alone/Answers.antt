@@ -26,7 +26,7 @@ returns-in-Solution-clause-fault g c =
     alone_err c.least_denominators.ensures (rule_of g.F.Fn c.args.chooser.now) c.args.system.now o.0 c.in-Solution.x.items c.in-Solution.dual.items o.1
     c.refused_entries_leave.ensures _ (rw c.deref.ensures.value at c.in_own.ensures.fault)
 
-pub returns-in-Refuted-clause-answer : goal.returns-clause-answer
+pub returns-in-Refuted-clause-answer : goal.returns-in-Refuted-clause-answer
 returns-in-Refuted-clause-answer g c =
     let o : IsOutcome (rule_of g.F.Fn c.args.chooser.now) c.args.system.now None (Refuted c.in-Refuted.answer c.in-Refuted.pivots) = rw c.in-Refuted.is at c.in_ok-x.ensures.outcome in
     vector_alone_ok c.least_denominators.ensures (rule_of g.F.Fn c.args.chooser.now) c.args.system.now o.0 o.1 o.2 c.in-Refuted.answer o.3
