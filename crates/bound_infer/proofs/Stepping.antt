@@ -23,6 +23,10 @@ pub on_ok_both : {X E : Type 0} (r : Result X E) (A B C : Type 0) → (A → B �
 on_ok_both (Ok x) A B C f a b = f a b
 on_ok_both (Err e) A B C f a b = tt
 
+pub if_ok_both : {X E : Type 0} (r : Result X E) (A : X → Type 0) (B : Type 0) (C : X → Type 0) → ((x : X) → A x → B → C x) → IfOk r A → OnOk r B → IfOk r C
+if_ok_both (Ok x) A B C f a b = f x a b
+if_ok_both (Err e) A B C f a b = tt
+
 pub on_ok_three : {X E : Type 0} (r : Result X E) (A B : Type 0) (C : X → Type 0) (D : Type 0) → (A → B → (x : X) → C x → D) → OnOk r A → OnOk r B → IfOk r C → OnOk r D
 on_ok_three (Ok x) A B C D f a b c = f a b x c
 on_ok_three (Err e) A B C D f a b c = tt

@@ -8,13 +8,13 @@ use Rattle.bound_infer.specs.Keeping.{state_of, analysis_in, ByEach}
 use Rattle.bound_infer.specs.Pivots.{ReachedWith, left}
 use Rattle.bound_infer.proofs.inference.infer_within.Given as goal
 
-abbrev pub invariant-loop-rest : goal.invariant-loop-rest
-invariant-loop-rest g l =
+abbrev pub invariant-loop-inference : goal.invariant-loop-inference
+invariant-loop-inference g l =
     IsAnalysisOf l.program l.d l.chooser l.inference × IsOnCourse g.F.Fn l.inference
     × (used : ℕ)
     × UpTo l.budget used
     × (l.rest ≡ left l.budget used)
     × ByEach g.F.Fn l.chooser (λ pick. ReachedWith (analysis_in l.program l.d pick) (state_of l.inference.run) used)
 
-abbrev pub decreases-loop-rest : goal.decreases-loop-rest
-decreases-loop-rest g l = length (tasks_from (results (program_in l.program)) l.d true 0 (program_in l.program).groups) - length (state_of l.inference.run).blocks
+abbrev pub decreases-loop-inference : goal.decreases-loop-inference
+decreases-loop-inference g l = length (tasks_from (results (program_in l.program)) l.d true 0 (program_in l.program).groups) - length (state_of l.inference.run).blocks

@@ -31,13 +31,13 @@ pub returns-in-Ok-None-clause-steps : goal.returns-in-Ok-None-clause-steps
 returns-in-Ok-None-clause-steps g c = λ pick by.
     (subst (IsOver (analysis_in c.args.program.now c.args.d pick)) (sym c.current.ensures.state) (sym c.in-Ok-None.ensures.next ∙ ap (option_map task_of) c.in-Ok-None.field-0-is), c.current.ensures.state)
 
-pub returns-clause-steps : goal.returns-clause-steps
-returns-clause-steps g c = if_ok c.at_task.result _ _
+pub returns-in-Ok-Some-clause-steps : goal.returns-in-Ok-Some-clause-steps
+returns-in-Ok-Some-clause-steps g c = if_ok c.at_task.result _ _
     (λ progress h pick by. subst (λ st. IsAfter (analysis_in c.args.program.now c.args.d pick) c.args.solver.now.most st (state_of c.at_task.new.run) progress) c.current.ensures.state (h pick by))
     c.at_task.ensures.steps
 
-pub returns-clause-stops : goal.returns-clause-stops
-returns-clause-stops g c = if_err c.at_task.result _ _
+pub returns-in-Ok-Some-clause-stops : goal.returns-in-Ok-Some-clause-stops
+returns-in-Ok-Some-clause-stops g c = if_err c.at_task.result _ _
     (λ fault s pick by.
     let A = analysis_in c.args.program.now c.args.d pick in
     let h = subst (λ st. IsAtHand A st (task_of c.in-Ok-Some.task)) (sym c.current.ensures.state)

@@ -6,6 +6,8 @@ use Rattle.infer_spec.specs.Good.{AllLeast}
 use Rattle.infer_spec.specs.States.{certificate_of}
 use Rattle.infer_systems_laws.proofs.Proper.{ordered_are_proper}
 use Rattle.bound_infer.specs.Keeping.{state_of, analysis_in}
+use Rattle.bound_infer.specs.Inferred.{IsInferred}
+use Rattle.bound_infer.proofs.Stepping.{if_ok_both}
 use Rattle.bound_infer.proofs.Leading.{ended, check_cause}
 use Rattle.bound_infer.proofs.Whole.{small}
 use Rattle.bound_infer.proofs.cursor.Inference.finish.Goals as goal
@@ -61,6 +63,14 @@ returns-clause-least g c =
     let cert = certificate_of c.args.self.degree true (state_of c.args.self.run) in
     let certifies = c.courses_certify.ensures A g' c.requires.course.least_degree c.requires.course.most_degree cert (ended A (state_of c.args.self.run) (c.requires.course.reached one.pick one.answers) (c.requires.over one.pick one.answers)) in
     if_ok c.ended.result _ _ (λ verified e. subst (λ (x : Checking). AllLeast P x.certificate) (sym e) certifies.least) c.ended.ensures.certificate
+
+pub returns-clause-course : goal.returns-clause-course
+returns-clause-course g c = if_ok_both c.ended.result _ _ _
+    (λ verified e passes pick by.
+    let A = analysis_in c.args.self.program.now c.args.self.degree pick in
+    let ends = ended A (state_of c.args.self.run) (c.requires.course.reached pick by) (c.requires.over pick by) in
+    subst (λ (x : Checking). IsInferred A x.certificate) (sym e) (record { ends = ends; passes = passes }))
+    c.ended.ensures.certificate c.ended.ensures.passes
 
 pub returns-clause-fault : goal.returns-clause-fault
 returns-clause-fault g c = if_err c.ended.result _ _

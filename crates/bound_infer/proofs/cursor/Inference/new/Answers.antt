@@ -1,7 +1,11 @@
+use Rattle.std.proofs.Common.{refl}
 use Rattle.bound_infer.specs.Keeping.{state_of, analysis_in}
 use Rattle.rules_plan.specs.Read.{program_in}
 use Rattle.bound_infer.proofs.Leading.{first}
 use Rattle.bound_infer.proofs.cursor.Inference.new.Goals as goal
+
+pub returns-clause-analysis : goal.returns-clause-analysis
+returns-clause-analysis g c = record { program_is = refl; degree_is = refl; rule_is = refl }
 
 pub returns-clause-course : goal.returns-clause-course
 returns-clause-course g c = record {
@@ -14,3 +18,6 @@ returns-clause-course g c = record {
   kept = c.new.ensures (program_in c.args.program.now);
   reached = λ pick by. first (analysis_in c.args.program.now c.args.degree pick) (state_of c.in_ok-begin.field-0) c.in_ok-begin.ensures.start;
 }
+
+pub returns-clause-start : goal.returns-clause-start
+returns-clause-start g c = c.in_ok-begin.ensures.start

@@ -1,3 +1,4 @@
+use Rattle.std.proofs.Common.{refl}
 use Rattle.constraint_gen.proofs.Whole.{if_err}
 use Rattle.bound_infer.specs.Keeping.{state_of, analysis_in}
 use Rattle.bound_infer.proofs.Leading.{goes, stopped}
@@ -24,6 +25,9 @@ step-requires-clause-kept g c = c.requires.course.kept
 
 pub step-requires-clause-reached : goal.step-requires-clause-reached
 step-requires-clause-reached g c = c.requires.course.reached
+
+pub returns-clause-same : goal.returns-clause-same
+returns-clause-same g c = record { program_is = refl; degree_is = refl; rule_is = refl }
 
 pub returns-clause-course : goal.returns-clause-course
 returns-clause-course g c =
