@@ -12,8 +12,8 @@ abbrev pub invariant-loop-inference : goal.invariant-loop-inference
 invariant-loop-inference g l =
     IsAnalysisOf l.program l.d l.chooser l.inference × IsOnCourse g.F.Fn l.inference
     × (used : ℕ)
-    × UpTo l.budget used
-    × (l.rest ≡ left l.budget used)
+    × UpTo l.fn.budget used
+    × (l.rest ≡ left l.fn.budget used)
     × ByEach g.F.Fn l.chooser (λ pick. ReachedWith (analysis_in l.program l.d pick) (state_of l.inference.run) used)
 
 abbrev pub decreases-loop-inference : goal.decreases-loop-inference
