@@ -1,11 +1,10 @@
 -- What is left of a budget of pivots along a course.
-use Rattle.std.proofs.Common.{◌≡◌, ◌+◌, ◌-◌, ◌∙◌, ℕ, List, [], ◌∷◌, Option, Some, None, refl, sym, ap, subst, unwrap_or, arith}
+use Rattle.std.proofs.Common.{◌≡◌, ◌+◌, ◌-◌, ℕ, [], ◌∷◌, Option, Some, None, refl, sym, ap, subst, unwrap_or, arith}
 use Rattle.infer_spec.specs.States.{State, start}
 use Rattle.infer_spec.specs.Generator.{Analysis}
-use Rattle.infer_spec.specs.Courses.{IsOver}
 use Rattle.simplex.specs.Solving.{UpTo}
-use Rattle.bound_infer.specs.After.{OneMore, IsAfter}
-use Rattle.bound_infer.specs.Pivots.{NextTakes, IsCutShort, ReachedWith, left, EndsWithin, IsGivenUp}
+use Rattle.bound_infer.specs.After.{IsAfter}
+use Rattle.bound_infer.specs.Pivots.{ReachedWith, left, EndsWithin, IsGivenUp}
 use Rattle.bound_infer.specs.declared.progress.Progress.TheVariants.{Advanced, Ended, Cut}
 
 pub none_used : (budget : Option ℕ) → UpTo budget 0

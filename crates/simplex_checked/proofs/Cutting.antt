@@ -1,5 +1,5 @@
 -- Where a course by a rule goes on past a limit, and where it does not.
-use Rattle.std.proofs.Common.{◌≡◌, sym, ap, subst, ◌∙◌, ℕ, zero, suc, ◌≤◌, ◌<◌, ◌⊎◌, inl, inr, ⊎_elim, pos, ◌≤ℤ◌, arith, List, [], ◌∷◌, length, Option, Some, refl}
+use Rattle.std.proofs.Common.{◌≡◌, sym, ap, subst, ◌∙◌, ℕ, zero, suc, ◌≤◌, ◌<◌, ◌⊎◌, ⊎_elim, pos, ◌≤ℤ◌, arith, List, [], ◌∷◌, length, Option, Some, refl}
 use Rattle.linear_rows.specs.Systems.{LinearSystem, IsSystem}
 use Rattle.simplex_spec.specs.Places as places
 use Rattle.simplex_spec.specs.Places.{row_at}
@@ -7,7 +7,7 @@ use Rattle.simplex_spec.specs.Tableaux.{Tableau, opening, pivot, Exits}
 use Rattle.simplex_spec.specs.Courses.{Rule, Enters, IsPivot, Leads, Course, Ends, Rises, Follows, FollowsFrom, Answers, AnswersOnce}
 use Rattle.simplex_spec.proofs.Ending.{Good, good_opening, good_pivot, one_row_exits}
 use Rattle.simplex_spec.proofs.Paths.{low_high, one_answer, over_positive}
-use Rattle.simplex.specs.Solving.{Bounds, IsCut, CutsBy, UpTo}
+use Rattle.simplex.specs.Solving.{Bounds, CutsBy, UpTo}
 use Rattle.simplex_checked.specs.Limits.{EndsAfter, AtEnd, AtRise}
 
 -- A course that is longer than a limit is cut there

@@ -5,7 +5,7 @@ use Rattle.frac128.specs.declared.Frac.{Frac}
 use Rattle.simplex_spec.specs.Courses.{Rule, AnswersOnce, rule_by}
 use Rattle.simplex.specs.Solving.{IsBest, IsRefuted, CutsBy, UpTo}
 use Rattle.simplex_checked.specs.Limits.{EndsAfter, AtEnd, AtRise}
-use Rattle.simplex_checked.proofs.ByPick.{IsMore, best_by, refuted_by, cuts_by}
+use Rattle.simplex_checked.proofs.ByPick.{IsMore, best_by, refuted_by}
 use Rattle.simplex_checked.proofs.Cutting.{uncut_is_short, ends_uncut}
 
 once_by : (pick : List ℤ → ℤ → Option ℕ) (rule : Rule) → IsMore pick rule → AnswersOnce rule

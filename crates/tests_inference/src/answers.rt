@@ -150,15 +150,16 @@ fn a_chooser_is_asked(rt: HostRuntime) -> Result<(), Fail> {
 fn within(alloc: Global, text: &str, most: Option<usize>) -> Result<String, Fail> {
     let chooser = Chooser::new(|gains: &[Frac]| least_column(gains));
     let system = system(alloc, &mut text.lines())?;
+    let mut out = String::new(alloc);
     match whole_answer_within(alloc, &system, &chooser, most) {
         Ok(Within::Answered { answer, pivots }) => {
-            let mut out = shown(alloc, &Ok(answer))?;
+            push_answer(&mut out, &answer)?;
             write!(out, " after {pivots}")?;
-            Ok(out)
         }
-        Ok(Within::Cut) => Ok(format!(in alloc; "cut")?),
-        Err(fault) => shown(alloc, &Err(fault)),
+        Ok(Within::Cut) => out.push_str("cut")?,
+        Err(fault) => push_fault(&mut out, &fault)?,
     }
+    Ok(out)
 }
 
 /// A system, how many pivots are allowed, and what it comes to. Each row of a solution that is found here enters

@@ -1,4 +1,4 @@
-use Rattle.std.proofs.Common.{◌+◌, ◌∙◌, ap, sym, subst}
+use Rattle.std.proofs.Common.{◌+◌, ◌∙◌, ap, subst}
 use Rattle.rules_plan.specs.Read.{program_in}
 use Rattle.infer_spec.specs.Courses.{IsOver}
 use Rattle.infer_spec.specs.Good.{AllLeast}
