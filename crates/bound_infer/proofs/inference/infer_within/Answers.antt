@@ -39,8 +39,7 @@ loop-inference-preserved g c =
     let st = state_of c.loop-inference.inference.run in
     let new = state_of c.step.new.self.run in
     let n = c.in-Advanced.pivots in
-    let after = steps_on c.args.program.now c.args.d c.args.chooser.now c.loop-inference.inference inv.0 g.F.Fn c.loop-inference.rest c.args.budget inv.2 inv.4 st new (Advanced n) (rw c.in-Advanced.is at c.in_ok-pivots.ensures.steps) in
-    (
+    let after = steps_on c.args.program.now c.args.d c.args.chooser.now c.loop-inference.inference inv.0 g.F.Fn c.loop-inference.rest c.args.budget inv.2 inv.4 st new (Advanced n) (rw c.in-Advanced.is at c.in_ok-pivots.ensures.steps) in (
       still c.args.program.now c.args.d c.args.chooser.now c.loop-inference.inference inv.0 c.step.new.self c.step.ensures.same,
       c.in_ok-pivots.ensures.course,
       inv.2 + n,

@@ -34,8 +34,7 @@ pub returns-in-Ok-clause-steps : goal.returns-in-Ok-clause-steps
 returns-in-Ok-clause-steps g c = λ pick by.
     let A = analysis_in c.args.program.now c.args.d pick in
     let here = c.requires.here pick by in
-    let waits = sym c.waits_for.ensures ∙ ap (option_map (λ f. f.0)) c.in-Some.is in
-    (
+    let waits = sym c.waits_for.ensures ∙ ap (option_map (λ f. f.0)) c.in-Some.is in (
       waits_step A (state_of c.args.run.now) (state_of c.waits.new.run) (task_of c.args.task.now) here c.in-Some.fun.0 waits c.in-Ok.ensures.state,
       record { task = task_of c.args.task.now; is_next = here.is_next; takes = Waiting c.in-Some.fun.0 waits refl },
       λ m e. omega arith,
