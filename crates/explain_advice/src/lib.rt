@@ -5,7 +5,9 @@ mod advice;
 mod advised;
 mod change;
 mod difference;
+mod given_up;
 mod information;
 
 pub use advice::add_advice;
 pub use advised::Advised;
+pub use given_up::add_given_up;

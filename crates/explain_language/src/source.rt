@@ -9,28 +9,34 @@ ghost use Rattle.explain_reasons.specs.Explanation.{AreReasons};
 ghost use Rattle.explain_reasons.specs.declared.reason.Explained.{Explained};
 ghost use Rattle.explain_language.specs.Told.{IsAnalysed, IsFaulty, IsLong, IsTold, most_tried};
 
-use explain_advice::{Advised, add_advice};
+use explain_advice::{Advised, add_advice, add_given_up};
 use explain_bounds::laws::findings_can_be_told;
 use explain_check::MOST_BYTES;
-use explain_degrees::Findings;
+use explain_degrees::{Findings, LeastWithin};
 use explain_faults::{Found, SourceFault, fault_insight, found_in};
 use explain_insight::program_insight;
 use explain_reasons::{Silent, reasons_of};
-use explain_trials::found_of;
+use explain_trials::found_within;
 use lsp_language::{Diagnostic, Insight, Severity, Span};
 use simple_types::Typed;
 use std::alloc::{AllocError, Global};
 
-/// What is told of a source: its first fault, or the bounds of its functions at degrees up to `most`.
-pub(crate) fn source_insight(alloc: Global, source: &[u8], most: u8) -> Result<Insight, AllocError>
+/// What is told of a source: its first fault, or the bounds of its functions at degrees up to `most` whose analyses take no more
+/// pivots than these.
+pub(crate) fn source_insight(
+    alloc: Global,
+    source: &[u8],
+    most: u8,
+    pivots: usize,
+) -> Result<Insight, AllocError>
     requires { most ≤ 4 }
-    ensures { IfOk result (IsTold most source.now) }
+    ensures { IfOk result (IsTold most pivots source.now) }
 {
     if source.len() as u64 > MOST_BYTES {
         return long_insight(alloc, source);
     }
     match found_in(alloc, source)? {
-        Found::Program(typed) => typed_insight(alloc, source, &typed, most),
+        Found::Program(typed) => typed_insight(alloc, source, &typed, most, pivots),
         Found::Fault(fault) => faulty_insight(alloc, source, &fault),
     }
 }
@@ -41,15 +47,26 @@ fn typed_insight(
     source: &[u8],
     typed: &Typed,
     most: u8,
+    pivots: usize,
 ) -> Result<Insight, AllocError>
     requires spelled { IsProgramOf source.now (program_of typed.now) }
     requires most { most ≤ 4 }
-    ensures { IfOk result (IsAnalysed most source.now) }
+    ensures { IfOk result (IsAnalysed most pivots source.now) }
 {
-    let found = found_of(alloc, typed, most)?;
+    let LeastWithin { found, given_up } = found_within(alloc, typed, most, Some(pivots))?;
     findings_can_be_told();
     let mut insight = program_insight(alloc, source, typed.program(), &found.functions)?;
-    advise(alloc, &mut insight, source, typed, &found.functions)?;
+    match given_up {
+        None => advise(alloc, &mut insight, source, typed, &found.functions)?,
+        Some(degree) => {
+            let advised = Advised {
+                source,
+                program: typed.program(),
+                found: &found.functions,
+            };
+            add_given_up(alloc, &mut insight, &advised, degree, pivots)?;
+        }
+    }
     Ok(insight)
 }
 
