@@ -22,6 +22,7 @@ of_function words g = record { at = g.at; severity = severity.Information; code 
 
 -- of all functions of which not all bounds are known
 abbrev pub of_functions : Text → List Function → List Findings → List Information
+of_functions words [] found = []
+of_functions words (g ∷ gs) [] = []
 of_functions words (g ∷ gs) (findings ∷ found) =
     cond (are_bounded findings) [] (of_function words g ∷ []) ++ of_functions words gs found
-of_functions words _ _ = []

@@ -51,12 +51,15 @@ fn push_all(
     ensures { OnOk result (informations_in diagnostics.new.items
         ≡ informations_in diagnostics.old.items ++ g.of_functions message.now (map function_of functions.now) found.now) }
 {
-    match (functions, found) {
-        ([function, functions @ ..], [findings, found @ ..]) => {
-            push_if(alloc, diagnostics, source, function, findings, message)?;
-            push_all(alloc, diagnostics, source, functions, found, message)
-        }
-        _ => Ok(()),
+    match functions {
+        [] => Ok(()),
+        [function, functions @ ..] => match found {
+            [] => Ok(()),
+            [findings, found @ ..] => {
+                push_if(alloc, diagnostics, source, function, findings, message)?;
+                push_all(alloc, diagnostics, source, functions, found, message)
+            }
+        },
     }
 }
 
