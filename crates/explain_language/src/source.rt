@@ -7,7 +7,7 @@ ghost use Rattle.explain_advice.specs.Advice.{IsAdvised};
 ghost use Rattle.explain_faults.specs.Faults.{IsFirst};
 ghost use Rattle.explain_reasons.specs.Explanation.{AreReasons};
 ghost use Rattle.explain_reasons.specs.declared.reason.Explained.{Explained};
-ghost use Rattle.explain_language.specs.Told.{IsAnalysed, IsFaulty, IsLong, IsTold, most_tried};
+ghost use Rattle.explain_language.specs.Told.{IsAnalysed, IsFaulty, IsLong, IsTold, IsToldWhy, most_tried};
 
 use explain_advice::{Advised, add_advice, add_given_up};
 use explain_bounds::laws::findings_can_be_told;
@@ -56,18 +56,43 @@ fn typed_insight(
     let LeastWithin { found, given_up } = found_within(alloc, typed, most, Some(pivots))?;
     findings_can_be_told();
     let mut insight = program_insight(alloc, source, typed.program(), &found.functions)?;
+    tell_why(
+        alloc,
+        &mut insight,
+        source,
+        typed,
+        &found.functions,
+        given_up,
+        pivots,
+    )?;
+    Ok(insight)
+}
+
+/// Adds why functions have no bound, or that the analysis of a degree was given up, where analyses found this of the program.
+fn tell_why(
+    alloc: Global,
+    insight: &mut Insight,
+    source: &[u8],
+    typed: &Typed,
+    found: &[Findings],
+    given_up: Option<u8>,
+    pivots: usize,
+) -> Result<(), AllocError>
+    requires spelled { IsProgramOf source.now (program_of typed.now) }
+    requires count { length found.now ≡ length (program_of typed.now) }
+    ensures { OnOk result (IsToldWhy given_up pivots source.now (program_of typed.now) found.now insight.old insight.new) }
+{
     match given_up {
-        None => advise(alloc, &mut insight, source, typed, &found.functions)?,
+        None => advise(alloc, insight, source, typed, found),
         Some(degree) => {
             let advised = Advised {
                 source,
                 program: typed.program(),
-                found: &found.functions,
+                found,
             };
-            add_given_up(alloc, &mut insight, &advised, degree, pivots)?;
+            add_given_up(alloc, insight, &advised, degree, pivots)
         }
     }
-    Ok(insight)
 }
 
 /// Adds why functions have no bound, where analyses found this of the program.
