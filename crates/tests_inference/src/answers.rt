@@ -9,8 +9,7 @@
 use frac128::Frac;
 use simplex::Chooser;
 use simplex_checked::{
-    Answer, AnswerFault, Within, answer_by_greatest, answer_by_least, least_column, whole_answer,
-    whole_answer_within,
+    Answer, AnswerFault, answer_by_greatest, answer_by_least, least_column, whole_answer,
 };
 use std::alloc::Global;
 use std::fmt::Write;
@@ -141,88 +140,6 @@ fn systems_are_answered(rt: HostRuntime) -> Result<(), Fail> {
 fn a_chooser_is_asked(rt: HostRuntime) -> Result<(), Fail> {
     for (text, want) in &ANSWERS {
         let found = by_chooser(rt.alloc(), text)?;
-        assert!(rt; found.as_str() == *want, "{found} of {text}");
-    }
-    Ok(())
-}
-
-/// What a system comes to by the rule of the least column, with at most so many pivots.
-fn within(alloc: Global, text: &str, most: Option<usize>) -> Result<String, Fail> {
-    let chooser = Chooser::new(|gains: &[Frac]| least_column(gains));
-    let system = system(alloc, &mut text.lines())?;
-    let mut out = String::new(alloc);
-    match whole_answer_within(alloc, &system, &chooser, most) {
-        Ok(Within::Answered { answer, pivots }) => {
-            push_answer(&mut out, &answer)?;
-            write!(out, " after {pivots}")?;
-        }
-        Ok(Within::Cut) => out.push_str("cut")?,
-        Err(fault) => push_fault(&mut out, &fault)?,
-    }
-    Ok(out)
-}
-
-/// A system, how many pivots are allowed, and what it comes to. Each row of a solution that is found here enters
-/// once, in order, and a row by which nothing is asked of an unknown refutes before any pivot.
-const LIMITS: [(&str, Option<usize>, &str); 12] = [
-    ("system 0 0\nweights", Some(0), "over 1: after 0"),
-    ("system 1 1\nweights 0:1\nrow 1 0:2", Some(0), "cut"),
-    (
-        "system 1 1\nweights 0:1\nrow 1 0:2",
-        Some(1),
-        "over 2: 1 after 1",
-    ),
-    // a row for each of two unknowns
-    (
-        "system 2 2\nweights 0:1 1:1\nrow 1 0:2\nrow 1 1:3",
-        Some(0),
-        "cut",
-    ),
-    (
-        "system 2 2\nweights 0:1 1:1\nrow 1 0:2\nrow 1 1:3",
-        Some(1),
-        "cut",
-    ),
-    (
-        "system 2 2\nweights 0:1 1:1\nrow 1 0:2\nrow 1 1:3",
-        Some(2),
-        "over 6: 3 2 after 2",
-    ),
-    (
-        "system 2 2\nweights 0:1 1:1\nrow 1 0:2\nrow 1 1:3",
-        None,
-        "over 6: 3 2 after 2",
-    ),
-    // nothing bounds the first row
-    (
-        "system 1 1\nweights\nrow 1",
-        Some(0),
-        "refuted by 1 after 0",
-    ),
-    // the first row enters, and then the second one is bounded by nothing
-    ("system 1 2\nweights\nrow 2 0:2\nrow 3 0:-1", Some(0), "cut"),
-    (
-        "system 1 2\nweights\nrow 2 0:2\nrow 3 0:-1",
-        Some(1),
-        "refuted by 1 2 after 1",
-    ),
-    // a number leaves where the second pivot is made, which is not looked at where one is allowed
-    (
-        "system 2 2\nweights 0:1 1:2\nrow 1 0:1\nrow 85070591730234615865843651857942052864 1:1",
-        Some(1),
-        "cut",
-    ),
-    (
-        "system 2 2\nweights 0:1 1:2\nrow 1 0:1\nrow 85070591730234615865843651857942052864 1:1",
-        Some(2),
-        "solve 2 4 after 0:0",
-    ),
-];
-
-#[test]
-fn limits_cut(rt: HostRuntime) -> Result<(), Fail> {
-    for (text, most, want) in &LIMITS {
-        let found = within(rt.alloc(), text, *most)?;
         assert!(rt; found.as_str() == *want, "{found} of {text}");
     }
     Ok(())
