@@ -1,23 +1,25 @@
 -- Steps lead on.
-use Rattle.std.proofs.Common.{◌≡◌, ◌<◌, ◌-◌, inl, ℕ, suc, true, false, [], ◌∷◌, length, Option, Some, None, Result, Ok, Err, sym, ap, ◌∙◌, subst, arith}
+use Rattle.std.proofs.Common.{◌≡◌, ◌<◌, ◌-◌, inl, ℕ, suc, refl, [], ◌∷◌, length, Option, Some, None, Result, Ok, Err, sym, ap, ◌∙◌, subst, arith}
 use Rattle.std.specs.Prelude.{IfErr, IsErrAnd}
 use Rattle.cost_free.specs.Task.{Task}
 use Rattle.cost_free.specs.Read.{task_of}
 use Rattle.cost_free.specs.Schedule.{tasks_from}
 use Rattle.annot_types.specs.Program.{results}
-use Rattle.infer_spec.specs.States.{State, start, certificate_of}
+use Rattle.infer_spec.specs.States.{State, start}
 use Rattle.infer_spec.specs.Generator.{Analysis}
 use Rattle.infer_spec.specs.Places as p
 use Rattle.infer_spec.specs.Places.{Place}
 use Rattle.annot_types.specs.Certificate.{Certificate}
-use Rattle.infer_spec.specs.Courses.{OnTask, EndsAt}
+use Rattle.infer_spec.specs.Courses.{IsOver, OnTask, EndsAt}
 use Rattle.infer_spec.proofs.Short.{courses_end, one_block}
 use Rattle.bound_infer.specs.Told.{told_of, what_of}
-use Rattle.bound_infer.specs.After.{IsAfter, Reached, IsAtHand, Ends, ComesTo, IsPlaceOf, StopsOn, StopsThere, StopsIn}
+use Rattle.bound_infer.specs.After.{OneMore, IsAfter, Reached, IsAtHand, Ends, ComesTo, IsPlaceOf, StopsOn, StopsThere, StopsIn}
 use Rattle.bound_infer.specs.Found.{CheckCause}
 use Rattle.bound_infer.specs.Inferred.{InferCause}
 use Rattle.bound_infer.specs.declared.leaves.LeavesAt.{LeavesAt}
 use Rattle.bound_infer.specs.declared.leaves.LeavesAt.TheVariants.{Solve, Row, Scale, Rescale, Check, Refute, Least}
+use Rattle.bound_infer.specs.declared.progress.Progress.{Progress}
+use Rattle.bound_infer.specs.declared.progress.Progress.TheVariants.{Advanced, Ended, Cut}
 use Rattle.bound_infer.specs.declared.refusal.InferFault.{InferFault}
 use Rattle.bound_infer.specs.declared.refusal.InferFault.TheVariants as i
 
@@ -28,18 +30,24 @@ all_tasks A = length (tasks_from (results A.program) A.degree A.work 0 A.program
 pub first : (A : Analysis) (st : State) → st ≡ start → Reached A st
 first A st e = record { findings = []; course = e }
 
-pub on : (A : Analysis) (old new : State) → Reached A old → IsAfter A old new true → Reached A new
+pub on : (A : Analysis) (old new : State) → Reached A old → OneMore A old new → Reached A new
 on A old new h k = record { findings = k.0 ∷ h.findings; course = (old, h.course, k.1) }
 
-pub fewer : (A : Analysis) (old new : State) → Reached A old → IsAfter A old new true → all_tasks A - length new.blocks < all_tasks A - length old.blocks
+pub fewer : (A : Analysis) (old new : State) → Reached A old → OneMore A old new → all_tasks A - length new.blocks < all_tasks A - length old.blocks
 fewer A old new h k =
     let r = on A old new h k in
     let low = courses_end A r.findings new r.course in
     let more : length new.blocks ≡ suc (length old.blocks) = ap (λ v. length v.blocks) (let step = k.1 in step.is) ∙ one_block A (let step = k.1 in step.task) k.0 old in
     omega (arith, low, more)
 
-pub ended : (A : Analysis) (old new : State) → Reached A old → IsAfter A old new false → Ends A new
-ended A old new h k = record { findings = h.findings; state = old; course = h.course; over = k.0; is = ap (certificate_of A.degree A.work) k.1 }
+-- whatever a step comes to
+pub goes : (A : Analysis) (most : Option ℕ) (old new : State) (progress : Progress) → Reached A old → IsAfter A most old new progress → Reached A new
+goes A most old new (Advanced pivots) h k = on A old new h k.0
+goes A most old new Ended h k = subst (Reached A) (sym k.1) h
+goes A most old new Cut h k = subst (Reached A) (sym k.1) h
+
+pub ended : (A : Analysis) (st : State) → Reached A st → IsOver A st → Ends A st
+ended A st h over = record { findings = h.findings; state = st; course = h.course; over = over; is = refl }
 
 comes : (A : Analysis) (st : State) (told : Task × Place) → Reached A st → StopsThere A st (Some told) → ComesTo A (Some told)
 comes A st told h s = (st, record { findings = h.findings; course = h.course; stops = s })

@@ -1,5 +1,5 @@
 -- One step by what a task came to.
-use Rattle.std.proofs.Common.{◌≡◌, ℕ, ℤ, true, List, Option, Some, None, Result, Ok, Err, OnOk, sym, ◌∙◌}
+use Rattle.std.proofs.Common.{◌≡◌, ℕ, ℤ, List, Option, Some, None, Result, Ok, Err, OnOk, IfOk, sym, ◌∙◌}
 use Rattle.cost_free.specs.Task.{Task}
 use Rattle.annot_types.specs.Certificate.{Refuted}
 use Rattle.infer_spec.specs.States.{State, with_block}
@@ -13,7 +13,7 @@ use Rattle.infer_spec.proofs.Running.{runs, stands_of}
 use Rattle.share_normal.specs.Program.{Kept}
 use Rattle.simplex_checked.specs.Answers.{IsSolution, IsVector}
 use Rattle.bound_infer.specs.Keeping.{analysis_in, StandsAt, Begins}
-use Rattle.bound_infer.specs.After.{IsAfter, IsAtHand, Reached, StopsOn}
+use Rattle.bound_infer.specs.After.{OneMore, IsAtHand, Reached, StopsOn}
 use Rattle.bound_infer.specs.Found.{RaiseCause}
 use Rattle.bound_infer.specs.declared.leaves.LeavesAt.TheVariants.{Solve, Row, Scale, Rescale, Check, Refute, Least}
 use Rattle.bound_infer.specs.declared.refusal.InferFault.{InferFault}
@@ -23,8 +23,16 @@ pub on_ok_both : {X E : Type 0} (r : Result X E) (A B C : Type 0) → (A → B �
 on_ok_both (Ok x) A B C f a b = f a b
 on_ok_both (Err e) A B C f a b = tt
 
+pub if_ok_both : {X E : Type 0} (r : Result X E) (A : X → Type 0) (B : Type 0) (C : X → Type 0) → ((x : X) → A x → B → C x) → IfOk r A → OnOk r B → IfOk r C
+if_ok_both (Ok x) A B C f a b = f x a b
+if_ok_both (Err e) A B C f a b = tt
+
+pub on_ok_three : {X E : Type 0} (r : Result X E) (A B : Type 0) (C : X → Type 0) (D : Type 0) → (A → B → (x : X) → C x → D) → OnOk r A → OnOk r B → IfOk r C → OnOk r D
+on_ok_three (Ok x) A B C D f a b c = f a b x c
+on_ok_three (Err e) A B C D f a b c = tt
+
 module _ (A : Analysis) (st new : State) (task : Task) (h : IsAtHand A st task) where
-  pub waits_step : (fun : ℕ) → blocker_at A st task ≡ Some fun → new ≡ after A task (Waits fun) st → IsAfter A st new true
+  pub waits_step : (fun : ℕ) → blocker_at A st task ≡ Some fun → new ≡ after A task (Waits fun) st → OneMore A st new
   waits_step fun w e = (
     Waits fun,
     record {
@@ -39,7 +47,7 @@ module _ (A : Analysis) (st new : State) (task : Task) (h : IsAtHand A st task) 
 
   module _ (clear : FineIsClear) (tried : blocker_at A st task ≡ None) (fine : RowsAreFine A st task) where
     pub solved_step : (t : ℕ) (x : List ℕ) → IsSolution (rule_of A) (system_at A st task) t x → ((place : ℕ) → RescaleLeaves task.kind t st place → ⊥) →
-        new ≡ after A task (Has t x) st → IsAfter A st new true
+        new ≡ after A task (Has t x) st → OneMore A st new
     solved_step t x s fit e = (
       Has t x,
       record {
@@ -52,7 +60,7 @@ module _ (A : Analysis) (st new : State) (task : Task) (h : IsAtHand A st task) 
       },
     )
 
-    pub refuted_step : (y : List ℕ) → IsVector (rule_of A) (system_at A st task) y → new ≡ with_block task (Refuted (listed 0 y)) st → IsAfter A st new true
+    pub refuted_step : (y : List ℕ) → IsVector (rule_of A) (system_at A st task) y → new ≡ with_block task (Refuted (listed 0 y)) st → OneMore A st new
     refuted_step y v e = (
       HasNone y,
       record {

@@ -1,5 +1,5 @@
 -- What a step, and a run of steps, come to.
-use Rattle.std.specs.Prelude.{◌≡◌, ◌⊎◌, Bool, true, false, List, Option, Some, None}
+use Rattle.std.specs.Prelude.{◌≡◌, ◌⊎◌, ℕ, List, Option, Some, None}
 use Rattle.cost_free.specs.Task.{Task}
 use Rattle.cost_free.specs.Read.{task_of}
 use Rattle.infer_spec.specs.States.{State, certificate_of}
@@ -7,14 +7,23 @@ use Rattle.infer_spec.specs.Generator.{Analysis, next_at, IsRefusedAt}
 use Rattle.infer_spec.specs.Places as p
 use Rattle.infer_spec.specs.Places.{Place, IsPlace}
 use Rattle.infer_spec.specs.Courses.{Finding, Step, Course, IsOver, OnTask, OnGroup, StopsAt, EndsAt}
+use Rattle.simplex.specs.Solving.{UpTo}
+use Rattle.bound_infer.specs.Pivots.{NextTakes, IsCutShort}
 use Rattle.bound_infer.specs.Told.{told_of, what_of}
+use Rattle.bound_infer.specs.declared.progress.Progress.{Progress}
+use Rattle.bound_infer.specs.declared.progress.Progress.TheVariants.{Advanced, Ended, Cut}
 use Rattle.bound_infer.specs.declared.refusal.InferFault.{InferFault}
 use Rattle.bound_infer.specs.declared.refusal.InferFault.TheVariants as i
 
--- one more task, or the end
-abbrev pub IsAfter : Analysis → State → State → Bool → Type 0
-IsAfter A old new true = (finding : Finding) × Step A old finding new
-IsAfter A old new false = IsOver A old × (new ≡ old)
+-- one more task is carried through
+abbrev pub OneMore : Analysis → State → State → Type 0
+OneMore A old new = (finding : Finding) × Step A old finding new
+
+-- One more task, with so many pivots, no more than the limit; or the end; or a task that takes more. Nothing changes but by a task.
+abbrev pub IsAfter : Analysis → Option ℕ → State → State → Progress → Type 0
+IsAfter A most old new (Advanced pivots) = OneMore A old new × NextTakes A old pivots × UpTo most pivots
+IsAfter A most old new Ended = IsOver A new × (new ≡ old)
+IsAfter A most old new Cut = IsCutShort A most new × (new ≡ old)
 
 -- a course leads to the state
 pub record Reached (A : Analysis) (st : State) : Type 0 where

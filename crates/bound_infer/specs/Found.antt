@@ -9,7 +9,9 @@ use Rattle.infer_spec.specs.Generator.{Indices, Analysis, system_at}
 use Rattle.infer_spec.specs.Places.{rule_of, RescaleLeaves}
 use Rattle.infer_spec.specs.Clear.{RowsAreFine}
 use Rattle.simplex_checked.specs.Answers.{IsAnswer, IsSolution, IsVector}
+use Rattle.simplex_checked.specs.Limits.{IsWithin}
 use Rattle.simplex_checked.specs.declared.answer.Answer.{Answer}
+use Rattle.simplex_checked.specs.declared.answer.Within.{Within}
 use Rattle.cert_check.specs.Fault as f
 use Rattle.cert_check.specs.Finds.{FirstFault}
 use Rattle.cert_check.specs.Laws.{IsLeaving}
@@ -29,6 +31,11 @@ pub record HasSystem (A : Analysis) (st : State) (task : Task) (s : LinearSystem
 pub record HasAnswer (A : Analysis) (st : State) (task : Task) (answer : Answer) : Type 0 where
   pub fine : RowsAreFine A st task
   pub is : IsAnswer (rule_of A) (system_at A st task) answer
+
+-- or with a limit of pivots it has this
+pub record HasWithin (A : Analysis) (st : State) (task : Task) (most : Option ℕ) (within : Within) : Type 0 where
+  pub fine : RowsAreFine A st task
+  pub is : IsWithin (rule_of A) (system_at A st task) most within
 
 -- the denominator and the numbers are those of its solution
 pub record HasSolution (A : Analysis) (st : State) (task : Task) (denominator : ℤ) (numbers : List ℤ) : Type 0 where

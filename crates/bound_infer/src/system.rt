@@ -17,11 +17,12 @@ ghost use Rattle.infer_systems_laws.specs.Tried.{IsOrdered};
 ghost use Rattle.simplex_checked.specs.Answers.{Stops};
 ghost use Rattle.bound_infer.specs.Keeping.{state_of, Keeps, analysis_in, StandsAt, ByEach};
 ghost use Rattle.bound_infer.specs.After.{StopsOn};
-ghost use Rattle.bound_infer.specs.Found.{HasSystem, HasAnswer};
+ghost use Rattle.bound_infer.specs.Found.{HasSystem, HasWithin};
 
 use crate::leaves::LeavesAt;
 use crate::refusal::InferFault;
 use crate::run::Run;
+use crate::solver::Solver;
 use constraint_gen::{GenFault, plans, rows_by};
 use cost_free::Task;
 use frac128::Frac;
@@ -30,8 +31,7 @@ use infer_systems_laws::laws::{limits_are_told, tried_are_tasks};
 use linear_rows::System;
 use rules_plan::{Body, GroupPlans};
 use share_normal::NormProgram;
-use simplex::Chooser;
-use simplex_checked::{Answer, AnswerFault, whole_answer};
+use simplex_checked::{AnswerFault, Within, whole_answer_within};
 use std::alloc::Global;
 
 // Why a task has no system.
@@ -142,7 +142,7 @@ fn answer_fault(task: &Task, fault: AnswerFault) -> InferFault
     }
 }
 
-/// What a task comes to, by the plans of its group.
+/// What a task comes to, by the plans of its group, with at most as many pivots as the solver may make.
 pub(crate) fn answered<F: Fn(&[Frac]) -> Option<usize>>(
     alloc: Global,
     program: &NormProgram<'_>,
@@ -150,10 +150,10 @@ pub(crate) fn answered<F: Fn(&[Frac]) -> Option<usize>>(
     run: &Run<'_>,
     task: &Task,
     plans: &GroupPlans,
-    chooser: &Chooser<F>,
-) -> Result<Answer, InferFault>
-    requires callable { F.IsAlwaysCallable chooser.now }
-    requires chooses { IsChooser F.Fn chooser.now }
+    solver: &Solver<'_, F>,
+) -> Result<Within, InferFault>
+    requires callable { F.IsAlwaysCallable solver.now.chooser.now }
+    requires chooses { IsChooser F.Fn solver.now.chooser.now }
     requires keeps { Keeps program.now d run.now }
     requires budget { budget_of d (kind_of task.now.kind) ≤ 4 }
     requires ordered { IsOrdered (program_in program.now) }
@@ -161,18 +161,19 @@ pub(crate) fn answered<F: Fn(&[Frac]) -> Option<usize>>(
     requires plans { ArePlansOf (program_in program.now) task.now.group (budget_of d (kind_of task.now.kind)) plans.now }
     requires indices { IsWithin (program_in program.now) d (task_of task.now) }
     ensures answer { IfOk result
-        (λ answer. ByEach F.Fn chooser.now
-        (λ pick. HasAnswer (analysis_in program.now d pick) (state_of run.now) (task_of task.now) answer)) }
+        (λ within. ByEach F.Fn solver.now.chooser.now
+        (λ pick. HasWithin (analysis_in program.now d pick) (state_of run.now) (task_of task.now) solver.now.most within)) }
     ensures fault { IfErr result
-        (λ fault. ByEach F.Fn chooser.now (λ pick. StopsOn (analysis_in program.now d pick) (state_of run.now) (task_of task.now) fault)) }
+        (λ fault. ByEach F.Fn solver.now.chooser.now
+        (λ pick. StopsOn (analysis_in program.now d pick) (state_of run.now) (task_of task.now) fault)) }
 {
     let Ok(bodies) = plans.over(alloc, &run.earlier) else {
         return Err(InferFault::NoMemory);
     };
     match system(alloc, program, d, run, task, &bodies) {
         Err(fault) => Err(fault),
-        Ok(system) => match whole_answer(alloc, &system, chooser) {
-            Ok(answer) => Ok(answer),
+        Ok(system) => match whole_answer_within(alloc, &system, solver.chooser, solver.most) {
+            Ok(within) => Ok(within),
             Err(fault) => Err(answer_fault(task, fault)),
         },
     }

@@ -17,10 +17,16 @@ pub fn command<'a>(alloc: Global) -> Result<Command<'a>, AllocError>
         .after_help(
             "Statuses: 0 where the editor shuts the server down before it ends it, 1 where not, 2 where what it sends is no message, 12 where it can't be answered.",
         );
-    command.arg(option(
+    let with_degree = command.arg(option(
         alloc,
         "degree",
         "D",
         "Tries the degrees up to D, 1 to 4; 4 where none is told",
+    ))?;
+    with_degree.arg(option(
+        alloc,
+        "budget",
+        "PIVOTS",
+        "Gives up the analysis of a degree that takes more pivots; 20000 where none are told",
     ))
 }

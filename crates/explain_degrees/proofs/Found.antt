@@ -1,5 +1,5 @@
 -- What the analysis of one more degree adds to what was found.
-use Rattle.std.proofs.Common.{◌≡◌, ◌≤◌, ◌<◌, ◌-◌, ◌⊎◌, inl, inr, ℕ, zero, suc, sym, ap, subst, ◌∙◌, List, [], ◌∷◌, ◌++◌, length, slice_get, Some, arith}
+use Rattle.std.proofs.Common.{◌≡◌, ◌≤◌, ◌<◌, ◌-◌, ◌⊎◌, inl, inr, ℕ, zero, suc, sym, ap, subst, ◌∙◌, List, [], ◌∷◌, ◌++◌, length, slice_get, Option, Some, None, arith}
 use Rattle.std.proofs.lemmas.Bool.Decides.{nat_tests}
 use Rattle.std.proofs.lemmas.List.Elements.{All-append, All-cons}
 use Rattle.std.proofs.lemmas.Option.{same_Some}
@@ -14,10 +14,12 @@ use Rattle.annot_types.specs.Program.{Program}
 use Rattle.bound_infer.specs.declared.line.Line.{Line}
 use Rattle.bound_infer.specs.declared.line.Line.TheVariants as line
 use Rattle.bound_infer.specs.Told.{claim_of, IsWritten}
-use Rattle.explain_degrees.specs.Degrees.{TellsAt, RefusedAt, AreRefused, IsRefused, HasNoBoundAt, Between, IsFinding, IsOverParameters, IsBounded, AreFindings, AllBounded, finding_of, found_at}
+use Rattle.explain_degrees.specs.Degrees.{TellsAt, RefusedAt, AreRefused, IsRefused, HasNoBoundAt, Between, IsFinding, IsOverParameters, IsBounded, AreFindings, AreLeast, AllBounded, finding_of, found_at}
+use Rattle.explain_degrees.specs.Within.{IsUpTo}
 use Rattle.explain_degrees.specs.declared.finding.Finding.{Finding}
 use Rattle.explain_degrees.specs.declared.finding.Finding.TheVariants as finding
 use Rattle.explain_degrees.specs.declared.finding.Findings.{Findings}
+use Rattle.explain_degrees.specs.declared.least.LeastBounds.{LeastBounds}
 use Rattle.explain_degrees.specs.declared.least.RefusedDegree.{RefusedDegree}
 
 below_or_same : (e d : ℕ) → e ≤ d → (e < d) ⊎ (e ≡ d)
@@ -100,3 +102,8 @@ refused_more N all x are here = All-append (λ r. RefusedAt N r.degree r.fault) 
 -- the function at a place is one
 pub same_types : (P : Prog) (f : ℕ) (g : Function) → slice_get P f ≡ Some g → (h : Function) → slice_get P f ≡ Some h → types_of g ≡ types_of h
 same_types P f g there h here = ap types_of (same_Some g h (sym there ∙ here))
+
+-- without a budget no degree is given up
+pub none_given_up : (P : Prog) (N : Program) (most : ℕ) (found : LeastBounds) (given_up : Option ℕ) → IsUpTo P N most None found given_up → AreLeast P N most found
+none_given_up P N most found None h = h
+none_given_up P N most found (Some d) h = absurd (let stops = h.2 in let never = stops.given_up.cut.cut.is_limit in cc)

@@ -1,13 +1,14 @@
 // The analyses of a program from degree 1 on.
 ghost use Rattle.bound_infer.specs.declared.refusal.InferFault.TheVariants.{NoMemory};
-ghost use Rattle.std.specs.Prelude.{◌≡◌, ◌≢◌, ◌≤◌, ◌-◌, length, IfOk, OnOk, IsTrue};
+ghost use Rattle.std.specs.Prelude.{◌≡◌, ◌≢◌, ◌≤◌, ◌-◌, length, IfOk, IsTrue};
 ghost use Rattle.raml_syntax.specs.Tree.{Prog};
 ghost use Rattle.annot_types.specs.Program.{Program};
 ghost use Rattle.share_normal.specs.Program.{source_in};
 ghost use Rattle.rules_plan.specs.Read.{program_in};
 ghost use Rattle.explain_degrees.specs.Degrees.{AreFindings, AreLeast, AllBounded};
+ghost use Rattle.explain_degrees.specs.Within.{AreLeastWithin, IsAdded};
 
-use crate::analysis::analyse;
+use crate::analysis::analyse_within;
 use crate::finding::Findings;
 use crate::noted::note_functions;
 use bound_infer::InferFault;
@@ -30,6 +31,16 @@ pub struct LeastBounds {
     pub refused: Vec<RefusedDegree>,
 }
 
+/// What analyses up to a degree find, each with no more pivots than a budget.
+#[derive(Debug, Drop)]
+pub struct LeastWithin {
+    /// What those find that were not given up.
+    pub found: LeastBounds,
+    /// The first degree whose analysis takes more pivots than the budget: it was given up, and no greater
+    /// degree was tried.
+    pub given_up: Option<u8>,
+}
+
 /// For each function of a program and each meter the bound of the least degree up to `most` at which there is one. A
 /// degree whose analysis a limit refuses does not hide the others.
 pub fn least_bounds(
@@ -40,6 +51,21 @@ pub fn least_bounds(
     requires { most ≤ 4 }
     ensures { IfOk result (AreLeast (source_in program.now) (program_in program.now) most) }
 {
+    let within = least_bounds_within(alloc, program, most, None)?;
+    Ok(within.found)
+}
+
+/// The same with no more pivots in the analysis of a degree than the budget, if there is one: up to the first
+/// degree whose analysis takes more.
+pub fn least_bounds_within(
+    alloc: Global,
+    program: &NormProgram<'_>,
+    most: u8,
+    budget: Option<usize>,
+) -> Result<LeastWithin, AllocError>
+    requires { most ≤ 4 }
+    ensures { IfOk result (AreLeastWithin (source_in program.now) (program_in program.now) most budget) }
+{
     let mut found = LeastBounds {
         functions: nothing_found(alloc, program.functions().len())?,
         refused: Vec::new(alloc),
@@ -47,29 +73,42 @@ pub fn least_bounds(
     let mut degree = 0;
     while degree < most && !are_bounded(&found.functions) {
         degree += 1;
-        add_degree(alloc, program, degree, &mut found)?;
+        if !add_degree(alloc, program, degree, budget, &mut found)? {
+            return Ok(LeastWithin {
+                found,
+                given_up: Some(degree),
+            });
+        }
     }
-    Ok(found)
+    Ok(LeastWithin {
+        found,
+        given_up: None,
+    })
 }
 
-/// Adds what the analysis of one more degree finds.
+/// Adds what the analysis of one more degree finds, unless it is given up: whether it is not.
 fn add_degree(
     alloc: Global,
     program: &NormProgram<'_>,
     degree: u8,
+    budget: Option<usize>,
     found: &mut LeastBounds,
-) -> Result<(), AllocError>
+) -> Result<bool, AllocError>
     requires least_degree { 1 ≤ degree }
     requires most_degree { degree ≤ 4 }
     requires before { AreLeast (source_in program.now) (program_in program.now) (degree - 1) found.old }
-    ensures { OnOk result (AreLeast (source_in program.now) (program_in program.now) degree found.new) }
+    ensures { IfOk result (IsAdded (source_in program.now) (program_in program.now) degree budget found.new) }
 {
     let _source = program.source();
-    match analyse(alloc, program, degree) {
-        Ok(verified) => note_functions(alloc, &mut found.functions, &verified, degree),
+    match analyse_within(alloc, program, degree, budget) {
+        Ok(Some(verified)) => {
+            note_functions(alloc, &mut found.functions, &verified, degree)?;
+            Ok(true)
+        }
+        Ok(None) => Ok(false),
         Err(fault) => {
             found.refused.push(refused(degree, fault)?)?;
-            Ok(())
+            Ok(true)
         }
     }
 }

@@ -6,6 +6,8 @@ mod finding;
 mod least;
 mod noted;
 
-pub use analysis::analyse;
+pub use analysis::{analyse, analyse_within};
 pub use finding::{Finding, Findings};
-pub use least::{LeastBounds, RefusedDegree, least_bounds, refused};
+pub use least::{
+    LeastBounds, LeastWithin, RefusedDegree, least_bounds, least_bounds_within, refused,
+};

@@ -6,7 +6,7 @@ use crate::site::word_len;
 use lsp_language::Span;
 
 /// The part that is marked for a fault at a byte: the token there, or one character.
-pub(crate) fn marked(source: &[u8], at: usize) -> Span
+pub fn marked(source: &[u8], at: usize) -> Span
     ensures { IsPart source.now (Some at) result }
 {
     Span {

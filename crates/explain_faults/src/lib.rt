@@ -11,6 +11,7 @@ mod listed;
 mod repair;
 mod site;
 
+pub use extent::marked;
 pub use fault::SourceFault;
 pub use found::{Found, found_in};
 pub use insight::fault_insight;

@@ -1,3 +1,3 @@
 mod Computed
 mod Each
-mod Places
+pub mod Places

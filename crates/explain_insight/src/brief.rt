@@ -21,7 +21,7 @@ use std::alloc::{AllocError, Global};
 use std::fmt::Write;
 
 /// The bounds of a function of ticks, of cells and of work, in one line.
-pub(crate) fn brief(alloc: Global, fun: &Fun, found: &Findings) -> Result<String, AllocError>
+pub fn brief_bounds(alloc: Global, fun: &Fun, found: &Findings) -> Result<String, AllocError>
     requires { AllCanBeTold (types_of (function_of fun.now)) found.now }
     ensures { IfOk result (λ text. IsBrief (function_of fun.now) found.now (string_bytes text)) }
 {

@@ -5,7 +5,7 @@ ghost use Rattle.raml_syntax.specs.Read.{function_of};
 ghost use Rattle.explain_bounds.specs.Written.{AllCanBeTold};
 ghost use Rattle.explain_insight.specs.Lenses.{IsLens, IsHint, line_end};
 
-use crate::brief::brief;
+use crate::brief::brief_bounds;
 use explain_degrees::Findings;
 use explain_places::line_at;
 use explain_tokens::starting;
@@ -24,7 +24,7 @@ pub(crate) fn lens(alloc: Global, fun: &Fun, found: &Findings) -> Result<Lens, A
             start,
             end: start + "fun".len(),
         },
-        title: brief(alloc, fun, found)?,
+        title: brief_bounds(alloc, fun, found)?,
     })
 }
 
@@ -40,7 +40,7 @@ pub(crate) fn hint(
 {
     Ok(Hint {
         offset: line_end(source, fun.at.0 as usize),
-        label: brief(alloc, fun, found)?,
+        label: brief_bounds(alloc, fun, found)?,
     })
 }
 

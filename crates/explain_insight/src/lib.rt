@@ -12,4 +12,5 @@ mod lens;
 mod parameter;
 mod program;
 
+pub use brief::brief_bounds;
 pub use program::program_insight;

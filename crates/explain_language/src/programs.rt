@@ -1,23 +1,30 @@
 // The language of programs.
 use crate::source::source_insight;
-use lsp_language::{Insight, Language};
+use explain_counts::line_hover;
+use lsp_language::{Hover, Insight, Language};
 use std::alloc::{AllocError, Global};
 
-/// The language of programs, whose bounds are those of degrees up to one.
+/// The language of programs, whose bounds are those of degrees up to one, as far as analyses go with so many pivots.
 #[derive(Clone, Copy, Debug)]
 pub struct Programs {
     /// The greatest degree to try. More than 4 counts as 4.
     pub degree: u8,
+    /// The analysis of a degree that takes more pivots is given up.
+    pub pivots: usize,
 }
 
 impl Language for Programs {
-    ghost use Rattle.std.specs.Prelude.{min, List, ℕ, IfOk};
-    ghost use Rattle.lsp_language.specs.declared.insight.Insight.{Insight};
-    ghost use Rattle.explain_language.specs.Told.{IsTold};
+    ghost use Rattle.std.specs.Prelude.{min, IfOk};
+    ghost use Rattle.lsp_language.specs.Telling.{Telling};
+    ghost use Rattle.explain_language.specs.Tells.{told_by};
 
-    ghost tells = { λ programs text insight. IsTold (min programs.degree 4) text insight };
+    ghost tells = { λ programs. told_by (min programs.degree 4) programs.pivots };
 
     fn insight(&self, alloc: Global, text: &str) -> Result<Insight, AllocError> {
-        source_insight(alloc, text.as_bytes(), self.degree.min(4))
+        source_insight(alloc, text.as_bytes(), self.degree.min(4), self.pivots)
+    }
+
+    fn hover(&self, alloc: Global, text: &str, offset: usize) -> Result<Option<Hover>, AllocError> {
+        line_hover(alloc, text.as_bytes(), self.degree.min(4), offset)
     }
 }

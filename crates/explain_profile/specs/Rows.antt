@@ -45,7 +45,7 @@ IsCounted case row = AreRunsAt case row.line.region.0 (runs_of row)
 
 -- the number of runs at sizes that are given
 abbrev pub number_at : Runs → Option ℕ
-number_at (r.AtMost sum at) = at
+number_at (r.AtMost sum legend at) = at
 number_at r.NoBound = None
 number_at r.NotAnalysed = None
 
@@ -79,7 +79,7 @@ AreArranged true found rows = AreDearestFirst found rows
 
 -- how often a line is run at most
 abbrev pub runs_text : Runs → Text
-runs_text (r.AtMost sum at) = string_bytes sum
+runs_text (r.AtMost sum legend at) = string_bytes sum
 runs_text r.NoBound = codes "no bound"
 runs_text r.NotAnalysed = codes "not analysed"
 

@@ -32,12 +32,12 @@ abbrev pub IsAt : Option (List Sizes) → Poly → Option ℕ → Type 0
 IsAt None poly at = at ≡ None
 IsAt (Some ss) poly at = SomeIff at (whole_at poly ss ≤ 2 ^ 127) (whole_at poly ss)
 
--- a bound in algebra over the sizes of the function's parameters, and at sizes that are given
-abbrev pub IsAtMost : Option (List Sizes) → Function → Poly → Text → Option ℕ → Type 0
-IsAtMost ss g poly sum at = (legend : Text) × IsReading (types_of g) (names_of g) poly sum legend × IsAt ss poly at
+-- a bound in algebra over the sizes of the function's parameters, what their names mean, and its value at sizes that are given
+abbrev pub IsAtMost : Option (List Sizes) → Function → Poly → Text → Text → Option ℕ → Type 0
+IsAtMost ss g poly sum legend at = IsReading (types_of g) (names_of g) poly sum legend × IsAt ss poly at
 
 abbrev pub IsBound : Option (List Sizes) → Function → Poly → Runs → Type 0
-IsBound ss g poly (r.AtMost sum at) = IsAtMost ss g poly (string_bytes sum) at
+IsBound ss g poly (r.AtMost sum legend at) = IsAtMost ss g poly (string_bytes sum) (string_bytes legend) at
 IsBound ss g poly other = ⊥
 
 -- what is found of the ticks of the function

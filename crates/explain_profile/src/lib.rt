@@ -12,4 +12,4 @@ mod table;
 mod ticks;
 
 pub use profile::push_profile;
-pub use runs::Case;
+pub use runs::{Case, Runs, program_in, runs_of_region};

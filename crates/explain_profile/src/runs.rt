@@ -1,5 +1,5 @@
 // How often a region is run at most.
-ghost use Rattle.std.specs.Prelude.{◌≡◌, ◌≤◌, ◌<◌, length, slice_get, Some, All, IfOk};
+ghost use Rattle.std.specs.Prelude.{◌≡◌, ◌≤◌, ◌<◌, length, slice_get, Some, All, IfOk, IfSome};
 ghost use Rattle.raml_syntax.specs.Types.{types_of};
 ghost use Rattle.raml_syntax.specs.Place.{place_of};
 ghost use Rattle.raml_syntax.specs.Read.{program_of, function_of};
@@ -7,6 +7,7 @@ ghost use Rattle.base_poly.specs.Indices.{AreIndices};
 ghost use Rattle.base_poly.specs.Poly.{IsPoly};
 ghost use Rattle.poly_point.specs.Point.{AreLow};
 ghost use Rattle.explain_bounds.specs.Written.{CanBeTold};
+ghost use Rattle.explain_check.specs.Checks.{most_bytes};
 ghost use Rattle.explain_regions.specs.Counter.{IsLexed};
 ghost use Rattle.explain_profile.specs.Runs as r;
 ghost use Rattle.explain_profile.specs.Runs.{AreFound, AreRuns, AreRunsAt, AreRunsIn, IsAt};
@@ -28,9 +29,14 @@ use std::alloc::{AllocError, Global};
 
 /// How often a region is run at most.
 #[derive(Debug, Drop)]
-pub(crate) enum Runs {
-    /// So often, by a sum in algebra, which is this at the sizes that are given, where it is at most 2^127.
-    AtMost { sum: String, at: Option<u128> },
+pub enum Runs {
+    /// So often, by a sum in algebra and what the names in it mean. The sum is this at the sizes that are given, where that is at
+    /// most 2^127.
+    AtMost {
+        sum: String,
+        legend: String,
+        at: Option<u128>,
+    },
     /// No bound is found.
     NoBound,
     /// No analysis can be made.
@@ -77,6 +83,7 @@ fn at_most(
     let reading = read_bound(alloc, poly, &types, &names)?;
     Ok(Runs::AtMost {
         sum: reading.sum,
+        legend: reading.legend,
         at: value(poly, sizes),
     })
 }
@@ -133,8 +140,10 @@ fn runs_in(alloc: Global, case: Case<'_>, typed: &Typed) -> Result<Runs, AllocEr
 }
 
 /// The typed program that a text spells. None where `raml` refuses the text, or it is longer than a source may be.
-fn program_in(alloc: Global, text: &[u8]) -> Result<Option<Typed>, AllocError>
-    ensures { IfOk result (SpellsIt text.now) }
+#[tactic(auto, using(crate::proofs::Unspelled::kept_short))]
+pub fn program_in(alloc: Global, text: &[u8]) -> Result<Option<Typed>, AllocError>
+    ensures spells { IfOk result (SpellsIt text.now) }
+    ensures short { IfOk result (λ program. IfSome program (λ _. length text.now ≤ most_bytes)) }
 {
     if text.len() as u64 > MOST_BYTES {
         return Ok(None);
@@ -155,7 +164,7 @@ fn runs_by(alloc: Global, case: Case<'_>, changed: &[u8]) -> Result<Runs, AllocE
 }
 
 /// How often the region that begins there is run at most.
-pub(crate) fn runs_of_region(alloc: Global, case: Case<'_>, region: Pos) -> Result<Runs, AllocError>
+pub fn runs_of_region(alloc: Global, case: Case<'_>, region: Pos) -> Result<Runs, AllocError>
     requires most { case.most ≤ 4 }
     requires lexed { IsLexed case.source.now }
     ensures { IfOk result (AreRunsAt (case_of case.entry) region.0) }

@@ -15,6 +15,6 @@ mod trying;
 mod waits;
 
 pub use note::Note;
-pub use program::{Explanation, explain};
+pub use program::{Explanation, explain, reasons_of};
 pub use progress::{Progress, Silent};
 pub use reason::{Explained, Reason};

@@ -113,8 +113,9 @@ fn explained<'s, 'a, P: Progress>(
     reasons
 }
 
-/// The same of a program of which analyses found this.
-fn reasons_of<'a, P: Progress>(
+/// Of each group of a program that has no bound why, callees first, where analyses found this of its functions. How many groups
+/// are done, of those that have no bound, is told as it goes on.
+pub fn reasons_of<'a, P: Progress>(
     alloc: Global,
     source: &[u8],
     typed: &'a Typed,

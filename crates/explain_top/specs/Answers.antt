@@ -25,6 +25,7 @@ use Rattle.explain_verify.specs.declared.verification.Verification.{Verification
 use Rattle.explain_verify.specs.declared.verification.Verification.TheVariants as o
 use Rattle.explain_words.specs.Asking.{Asks, AsksToShow, AsksNothing}
 use Rattle.explain_words.specs.declared.request.Request.{Request}
+use Rattle.explain_words.specs.declared.request.lsp.LspWords.{LspWords}
 use Rattle.explain_words.specs.declared.request.Request.TheVariants.{Check, CheckData, Bounds, Budget, WriteBudget, Verify}
 use Rattle.explain_words.specs.declared.request.Request.TheVariants.{Why, Plot, Profile, Lsp}
 use Rattle.explain_words.specs.declared.request.bounds.BoundsWords.{BoundsWords}
@@ -36,7 +37,7 @@ use Rattle.explain_plot.specs.Files.{names_of}
 use Rattle.explain_words.specs.declared.request.profile.ProfileWords.{ProfileWords}
 use Rattle.explain_profile_call.specs.Calls as profile
 use Rattle.explain_why.specs.Calls as why
-use Rattle.explain_language.specs.Told as language
+use Rattle.explain_language.specs.Tells as language
 use Rattle.lsp_session.specs.Sessions.{Streams, streams_of, IsServed}
 use Rattle.lsp_session.specs.declared.end.SessionEnd.{SessionEnd}
 use Rattle.lsp_session.specs.declared.end.SessionEnd.TheVariants as session
@@ -252,10 +253,12 @@ said_of session.NoMemory = codes "explain: out of memory\n"
 said_of session.TooLong = codes "explain: the session is too long\n"
 said_of cause = []
 
--- An editor is served: what it is told of a text is the text's fault, or the bounds of its functions at degrees up to this one.
-abbrev pub IsEditorServed : ℕ → Streams → Streams → Sink → Status → Type 0
-IsEditorServed degree start last err status =
-    (end : SessionEnd) × IsServed (language.IsTold (min degree 4)) start last end × (status ≡ status_of_session end) × Writes (said_of end) err
+-- An editor is served: what it is told of a text is the text's fault, or the bounds of its functions at degrees up to the one that is asked
+-- for and why they have none, as far as analyses go with so many pivots; and of a line how often it is run.
+abbrev pub IsEditorServed : LspWords → Streams → Streams → Sink → Status → Type 0
+IsEditorServed words start last err status =
+    (end : SessionEnd) × IsServed (language.told_by (min words.degree 4) words.pivots) start last end × (status ≡ status_of_session end)
+    × Writes (said_of end) err
 
 -- ---- requests
 
@@ -283,8 +286,8 @@ IsAnswer store shelf editor (Verify file certificate) columns out err status =
 IsAnswer store shelf editor (Why words) columns out err status = IsWhyTold store shelf words out err status
 IsAnswer store shelf editor (Plot words) columns out err status = IsPlotTold store shelf words out err status
 IsAnswer store shelf editor (Profile words) columns out err status = IsProfileTold store words out err status × KeepsFiles shelf
-IsAnswer store shelf editor (Lsp degree) columns out err status =
-    IsEditorServed degree (streams_of editor.before out.old) (streams_of editor.after out.new) err status × KeepsFiles shelf
+IsAnswer store shelf editor (Lsp words) columns out err status =
+    IsEditorServed words (streams_of editor.before out.old) (streams_of editor.after out.new) err status × KeepsFiles shelf
 
 -- ---- whole calls
 

@@ -7,6 +7,7 @@ ghost use Rattle.lsp_session.specs.Sessions.{streams_of};
 use crate::asked::write_report;
 use crate::status::Status;
 use explain_language::Programs;
+use explain_words::LspWords;
 use lsp_session::{SessionEnd, serve};
 use raml_io::Sink;
 use std::alloc::Global;
@@ -15,15 +16,18 @@ use std::io::Read;
 /// Serves an editor until their session ends, and says on `err` why, where the editor did not end it.
 pub(crate) fn serve_editor<I: Read, O: Sink, E: Sink>(
     alloc: Global,
-    degree: u8,
+    words: LspWords,
     input: &mut I,
     out: &mut O,
     err: &mut E,
 ) -> Status
-    ensures { IsEditorServed degree (streams_of (I.remaining input.old) (O.written out.old)) (streams_of (I.remaining input.new) (O.written out.new))
+    ensures { IsEditorServed words (streams_of (I.remaining input.old) (O.written out.old)) (streams_of (I.remaining input.new) (O.written out.new))
         (sink_of (E.faults err.old) (E.faults err.new) (E.written err.old) (E.written err.new)) result }
 {
-    let programs = Programs { degree };
+    let programs = Programs {
+        degree: words.degree,
+        pivots: words.pivots,
+    };
     let end = serve(alloc, input, &programs, out);
     write_report(err, said_of(end));
     Status::from(end)

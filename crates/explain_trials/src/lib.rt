@@ -5,4 +5,4 @@ mod edited;
 mod trial;
 
 pub use edited::{EditedSource, try_edits, typed_edits};
-pub use trial::{Trial, found_of, trial_of, typed_text};
+pub use trial::{Trial, found_of, found_within, trial_of, typed_text};

@@ -2,11 +2,11 @@
 ghost use Rattle.std.specs.Prelude.{◌≡◌, ◌≤◌, IfOk, IfSome};
 ghost use Rattle.raml_syntax.specs.Read.{program_of};
 ghost use Rattle.explain_check.specs.Checks.{IsProgramOf};
-ghost use Rattle.explain_trials.specs.Trials.{FindsUpTo};
+ghost use Rattle.explain_trials.specs.Trials.{FindsUpTo, FindsWithin};
 ghost use Rattle.explain_trials.specs.Read.{IsTrialOf};
 
 use explain_check::{MOST_BYTES, typed_source};
-use explain_degrees::{LeastBounds, least_bounds};
+use explain_degrees::{LeastBounds, LeastWithin, least_bounds, least_bounds_within};
 use normal_program::normal_form;
 use simple_types::Typed;
 use std::alloc::{AllocError, Global};
@@ -42,6 +42,23 @@ pub fn trial_of(alloc: Global, text: Vec<u8>, typed: Typed, most: u8) -> Result<
 {
     let found = found_of(alloc, &typed, most)?;
     Ok(Trial { text, typed, found })
+}
+
+/// What analyses up to a degree find of a typed program, each with no more pivots than the budget, if there is one: up to the
+/// first degree whose analysis takes more.
+pub fn found_within(
+    alloc: Global,
+    typed: &Typed,
+    most: u8,
+    budget: Option<usize>,
+) -> Result<LeastWithin, AllocError>
+    requires { most ≤ 4 }
+    ensures { IfOk result (FindsWithin (program_of typed.now) most budget) }
+{
+    let _program = typed.program();
+    let program = normal_form(alloc, typed)?;
+    let _source = program.source();
+    least_bounds_within(alloc, &program, most, budget)
 }
 
 /// What analyses up to a degree find of a typed program.

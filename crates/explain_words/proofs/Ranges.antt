@@ -7,7 +7,7 @@ use Rattle.clap.specs.Simple.{subcommand_of}
 use Rattle.explain_commands.specs.Apps.{app}
 use Rattle.clap.specs.Walk.{Text, Row, first_of}
 use Rattle.explain_words.specs.Asking.{Command, OfCheck, OfBounds, OfBudget, OfVerify, OfWhy, OfPlot, OfProfile, OfLsp, command_named, MeansBy, Means}
-use Rattle.explain_words.specs.Commands.{AreBounds, AreBudget, ArePlot, AreWhy, Keep, Write, degree_or_4, optional, values, AreProfile}
+use Rattle.explain_words.specs.Commands.{AreBounds, AreBudget, AreLsp, ArePlot, AreWhy, Keep, Write, degree_or_4, optional, values, AreProfile}
 use Rattle.explain_words.specs.Laws.{IsDegree, AreInRange, IsInRange, AskedIsInRange}
 use Rattle.explain_words.specs.Spelled.{degree_in, is_numeral, meter_named, number_in, ranged, within_in, within_of, cut_at}
 use Rattle.explain_words.specs.declared.request.Request.{Request}
@@ -97,7 +97,9 @@ meant_is_in_range (Some OfPlot) rows (Plot asked) means =
 meant_is_in_range (Some OfProfile) rows (Profile asked) means =
     let are : AreProfile rows asked = means in
     degree_in_range (first_of (codes "degree") rows) asked.degree are.degree
-meant_is_in_range (Some OfLsp) rows (Lsp degree) means = degree_in_range (first_of (codes "degree") rows) degree means
+meant_is_in_range (Some OfLsp) rows (Lsp asked) means =
+    let are : AreLsp rows asked = means in
+    degree_in_range (first_of (codes "degree") rows) asked.degree are.degree
 meant_is_in_range command rows request means = absurd means
 
 pub asked_is_in_range : AskedIsInRange

@@ -5,7 +5,7 @@ use Rattle.std.specs.Option.{option_map_or}
 use Rattle.std.specs.Str.{bytes_eq}
 use Rattle.std.specs.Borrow.{Bor}
 use Rattle.clap.specs.Walk.{Row, Text, all_of, first_of}
-use Rattle.explain_words.specs.Spelled.{lent, degree_in, seed_in, width_in, meter_named, within_in}
+use Rattle.explain_words.specs.Spelled.{lent, degree_in, seed_in, pivots_in, width_in, meter_named, within_in}
 use Rattle.explain_words.specs.declared.within.Meter.{Meter}
 use Rattle.explain_words.specs.declared.within.Meter.TheVariants.{Work}
 use Rattle.explain_words.specs.declared.request.Request.{Request}
@@ -16,6 +16,7 @@ use Rattle.explain_words.specs.declared.request.budget.Aim.TheVariants as aim
 use Rattle.explain_words.specs.declared.request.plot.Arguments.{Arguments as Arguments'}
 use Rattle.explain_words.specs.declared.request.plot.Arguments.TheVariants as arguments
 use Rattle.explain_words.specs.declared.request.plot.PlotWords.{PlotWords}
+use Rattle.explain_words.specs.declared.request.lsp.LspWords.{LspWords}
 use Rattle.explain_words.specs.declared.request.profile.ProfileWords.{ProfileWords}
 use Rattle.explain_words.specs.declared.request.why.WhyWords.{WhyWords}
 use Rattle.explain_words.specs.declared.request.why.Written.{Written}
@@ -181,7 +182,16 @@ abbrev pub MeansProfile : List Row → Request → Type 0
 MeansProfile rows (Profile asked) = AreProfile rows asked
 MeansProfile rows other = ⊥
 
+-- the pivots that are given, or many
+abbrev pub pivots_or_many : Option Text → Option ℕ
+pivots_or_many None = Some 20000
+pivots_or_many (Some word) = pivots_in word
+
 -- what `lsp` asks for
+pub record AreLsp (rows : List Row) (asked : LspWords) : Type 0 where
+  pub degree : degree_or_4 (first_of (codes "degree") rows) ≡ Some asked.degree
+  pub pivots : pivots_or_many (first_of (codes "budget") rows) ≡ Some asked.pivots
+
 abbrev pub MeansLsp : List Row → Request → Type 0
-MeansLsp rows (Lsp degree) = degree_or_4 (first_of (codes "degree") rows) ≡ Some degree
+MeansLsp rows (Lsp asked) = AreLsp rows asked
 MeansLsp rows other = ⊥

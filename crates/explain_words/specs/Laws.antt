@@ -22,7 +22,7 @@ IsInRange (WriteBudget file bounds degree force) = IfSome degree IsDegree
 IsInRange (Why words) = IsDegree words.degree
 IsInRange (Plot words) = IsDegree words.degree
 IsInRange (Profile words) = IsDegree words.degree
-IsInRange (Lsp degree) = IsDegree degree
+IsInRange (Lsp words) = IsDegree words.degree
 IsInRange other = Unit {0}
 
 -- What words ask for is in range.

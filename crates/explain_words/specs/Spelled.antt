@@ -40,6 +40,10 @@ degree_in = number_in 1 1 4
 abbrev pub seed_in : Text → Option ℕ
 seed_in = number_in 20 0 (2 ^ 64 - 1)
 
+-- at most ten digits, and at most 1000000000
+abbrev pub pivots_in : Text → Option ℕ
+pivots_in = number_in 10 0 1000000000
+
 -- at most five digits, and at least 20
 abbrev pub width_in : Text → Option ℕ
 width_in = number_in 5 20 99999

@@ -9,6 +9,7 @@ mod request;
 mod within;
 
 pub use request::bounds::BoundsWords;
+pub use request::lsp::LspWords;
 pub use request::plot::{Arguments, PlotWords};
 pub use request::profile::ProfileWords;
 pub use request::why::{WhyWords, Written};

@@ -45,6 +45,8 @@ pub enum Mistake {
     NoOutput,
     /// The word is no seed.
     Seed,
+    /// The word is no number of pivots.
+    Pivots,
     /// There is no function.
     NoFunction,
 }
@@ -87,6 +89,9 @@ impl Mistake {
             Mistake::SeedOfData => "error: '--seed <N>' stands with '--sizes <SIZES>' alone\n",
             Mistake::NoOutput => "error: no file for the picture is given\n",
             Mistake::Seed => "error: '--seed <N>' takes a whole number below 2^64\n",
+            Mistake::Pivots => {
+                "error: '--budget <PIVOTS>' takes a whole number of at most 1000000000\n"
+            }
             Mistake::NoFunction => "error: no function is given: '--function <F>'\n",
         }
     }

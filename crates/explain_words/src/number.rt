@@ -1,7 +1,7 @@
 // Numbers in words.
 ghost use Rattle.std.specs.Prelude.{◌≡◌, ◌≤◌, IfSome};
 ghost use Rattle.std.specs.Str.{all_ascii_digits};
-ghost use Rattle.explain_words.specs.Spelled.{are_digits, degree_in, is_numeral, number_in, seed_in};
+ghost use Rattle.explain_words.specs.Spelled.{are_digits, degree_in, is_numeral, number_in, pivots_in, seed_in};
 
 /// The greatest degree that may be asked for.
 const MOST_DEGREE: u128 = 4;
@@ -23,6 +23,17 @@ pub fn seed_in(word: &str) -> Option<u64>
 {
     let seed = number_in(20, 0, MOST_SEED, word)?;
     Some(seed as u64)
+}
+
+/// The greatest number of pivots.
+const MOST_PIVOTS: u128 = 1_000_000_000;
+
+/// The number of pivots that a word gives: at most 1,000,000,000.
+pub fn pivots_in(word: &str) -> Option<usize>
+    ensures { result ≡ pivots_in word.now }
+{
+    let pivots = number_in(10, 0, MOST_PIVOTS, word)?;
+    Some(pivots as usize)
 }
 
 /// The number that digits spell, at least one and at most so many, where it is in the range.

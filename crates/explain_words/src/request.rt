@@ -11,7 +11,7 @@ ghost use Rattle.explain_words.specs.Asking.{command_named, MeansBy, Means, Asks
 pub mod bounds;
 mod budget;
 mod check;
-mod lsp;
+pub mod lsp;
 pub mod plot;
 pub mod profile;
 mod verify;
@@ -23,6 +23,7 @@ use bounds::BoundsWords;
 use clap::error::ErrorKind;
 use clap::{ArgMatches, Error};
 use explain_commands::program;
+use lsp::LspWords;
 use plot::PlotWords;
 use profile::ProfileWords;
 use std::alloc::{AllocError, Global};
@@ -68,10 +69,8 @@ pub enum Request<'a> {
     Plot(PlotWords<'a>),
     /// Say how often lines of a program are run at most by a call of a function.
     Profile(ProfileWords<'a>),
-    /// Serve an editor, with bounds of degrees up to one.
-    Lsp {
-        degree: u8,
-    },
+    /// Serve an editor.
+    Lsp(LspWords),
 }
 
 /// Why words give no request.

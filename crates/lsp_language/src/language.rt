@@ -1,16 +1,21 @@
 // Languages.
-ghost use Rattle.std.specs.Prelude.{List, ℕ, IfOk};
-ghost use Rattle.lsp_language.specs.declared.insight.Insight.{Insight};
+ghost use Rattle.std.specs.Prelude.{IfOk};
+ghost use Rattle.lsp_language.specs.Telling.{Telling};
 
-use crate::insight::Insight;
+use crate::insight::{Hover, Insight};
 use std::alloc::{AllocError, Global};
 
 /// A language, which knows its texts.
 pub trait Language {
-    /// What it tells of a text, whose bytes come first.
-    ghost tells: { Self → List ℕ → Insight → Type 0 };
+    /// What it tells of texts.
+    ghost tells: { Self → Telling };
 
     /// What is known of this text. It takes every text, also one that is no program.
     fn insight(&self, alloc: Global, text: &str) -> Result<Insight, AllocError>
-        ensures { IfOk result (tells self.now text.now) };
+        ensures { IfOk result ((tells self.now).insight text.now) };
+
+    /// What is shown at this byte of the text, where no hover of its insight is met. It is asked for one place at a time, so that
+    /// it may take longer than what is known at once. It takes every text and every place.
+    fn hover(&self, alloc: Global, text: &str, offset: usize) -> Result<Option<Hover>, AllocError>
+        ensures { IfOk result ((tells self.now).hover text.now offset) };
 }

@@ -1,3 +1,4 @@
 pub mod Plain
 pub mod Listed
+pub mod Shown
 mod Computed

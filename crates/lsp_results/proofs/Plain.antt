@@ -11,6 +11,7 @@ use Rattle.serde_json.specs.declared.value.Value.{Value}
 use Rattle.lsp_positions.specs.declared.position.Encoding.{Encoding}
 use Rattle.lsp_positions.specs.declared.position.Encoding.TheVariants.{Utf16, Utf8}
 use Rattle.lsp_positions.specs.Positions.{offset_of}
+use Rattle.lsp_language.specs.Telling.{Telling}
 use Rattle.lsp_language.specs.declared.insight.Hover.{Hover}
 use Rattle.lsp_language.specs.declared.insight.Action.{Action}
 use Rattle.lsp_language.specs.declared.insight.Diagnostic.{Diagnostic}
@@ -18,12 +19,12 @@ use Rattle.lsp_language.specs.declared.insight.Insight.{Insight}
 use Rattle.lsp_params.specs.declared.asking.Ask.{Ask}
 use Rattle.lsp_params.specs.declared.asking.Ask.TheVariants as a
 use Rattle.lsp_results.specs.Places.{list_json}
-use Rattle.lsp_results.specs.Hovers.{first_at, hover_or_null}
+use Rattle.lsp_results.specs.Hovers.{hover_or_null}
 use Rattle.lsp_results.specs.Marks.{lens_json, hint_json, is_between}
 use Rattle.lsp_results.specs.Actions.{meets, edit_json, edits_json, action_json}
 use Rattle.lsp_results.specs.Diagnostics.{related_json, all_related_json, diagnostic_members, with_code, code_of, diagnostic_json, diagnostics_json, published_json}
 use Rattle.lsp_results.specs.Capabilities.{initialized_json}
-use Rattle.lsp_results.specs.Results.{result_of}
+use Rattle.lsp_results.specs.Results.{IsResult}
 
 pub plain_by : (r : Result Value AllocError) (d : Data) → has_float d ≡ false → IfOk r (λ v. view v ≡ d) → IfOk r (λ v. has_float (view v) ≡ false)
 plain_by (Ok v) d plain is = ap has_float is ∙ plain
@@ -40,15 +41,21 @@ hover_plain encoding text (Some hover) = refl
 action_plain : (encoding : Encoding) (text uri : List ℕ) (action : Action) → has_float (action_json encoding text uri action) ≡ false
 action_plain encoding text uri action = rw (list_plain (edit_json encoding text) (λ edit. refl) action.edits.items) refl
 
-pub result_plain : (encoding : Encoding) (text uri : List ℕ) (insight : Insight) (ask : Ask) → has_float (result_of encoding text uri insight ask) ≡ false
-result_plain encoding text uri insight (a.Hover position) = hover_plain encoding text (first_at (offset_of encoding text position) insight.hovers.items)
-result_plain encoding text uri insight a.Lenses = list_plain (lens_json encoding text) (λ lens. refl) insight.lenses.items
-result_plain encoding text uri insight (a.Hints range) =
-    list_plain (hint_json encoding text) (λ hint. refl)
+result_plain : (tells : Telling) (encoding : Encoding) (text uri : List ℕ) (insight : Insight) (ask : Ask) (d : Data) → IsResult tells encoding text uri insight ask d →
+    has_float d ≡ false
+result_plain tells encoding text uri insight (a.Hover position) d is = ap has_float is.is ∙ hover_plain encoding text is.hover
+result_plain tells encoding text uri insight a.Lenses d is = ap has_float is ∙ list_plain (lens_json encoding text) (λ lens. refl) insight.lenses.items
+result_plain tells encoding text uri insight (a.Hints range) d is =
+    ap has_float is ∙ list_plain (hint_json encoding text) (λ hint. refl)
     (filter (is_between (offset_of encoding text range.start) (offset_of encoding text range.end)) insight.hints.items)
-result_plain encoding text uri insight (a.Actions range) =
-    list_plain (action_json encoding text uri) (action_plain encoding text uri)
+result_plain tells encoding text uri insight (a.Actions range) d is =
+    ap has_float is ∙ list_plain (action_json encoding text uri) (action_plain encoding text uri)
     (filter (meets (offset_of encoding text range.start) (offset_of encoding text range.end)) insight.actions.items)
+
+pub results_plain : (tells : Telling) (encoding : Encoding) (text uri : List ℕ) (insight : Insight) (ask : Ask) (r : Result Value AllocError) →
+    IfOk r (λ v. IsResult tells encoding text uri insight ask (view v)) → IfOk r (λ v. has_float (view v) ≡ false)
+results_plain tells encoding text uri insight ask (Ok v) is = result_plain tells encoding text uri insight ask (view v) is
+results_plain tells encoding text uri insight ask (Err e) is = is
 
 code_plain : (encoding : Encoding) (text uri : List ℕ) (diagnostic : Diagnostic) (code : Option (List ℕ)) →
     members_have_float (with_code code (diagnostic_members encoding text uri diagnostic)) ≡ false

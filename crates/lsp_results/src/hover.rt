@@ -1,26 +1,56 @@
 // What is shown where the pointer rests.
-ghost use Rattle.std.specs.Prelude.{◌≡◌, IfOk, option_map};
+ghost use Rattle.std.specs.Prelude.{◌≡◌, IfOk, [], option_map};
 ghost use Rattle.serde_json.specs.View.{view};
-ghost use Rattle.lsp_results.specs.Hovers.{holds, first_at, markup_json, hover_json, hover_at};
+ghost use Rattle.lsp_results.specs.Hovers.{holds, first_at, markup_json, hover_json, hover_or_null, IsHoverAt};
 
 use crate::place::put_span;
 use lsp_documents::Document;
-use lsp_language::{Hover, Span};
+use lsp_language::{Hover, Language, Span};
 use lsp_positions::Encoding;
 use serde_json::{Map, Value, json, put};
 use std::alloc::{AllocError, Global};
 
-/// The result of a hover at a place of a document.
-pub fn hover_at(
+/// The answer to a hover at a place of a document: the first of these that is met there, or else what the language tells there.
+pub fn hover_at<L: Language>(
     alloc: Global,
+    language: &L,
     encoding: Encoding,
     document: &Document,
     place: usize,
-    hovers: &[Hover],
+    known: &[Hover],
 ) -> Result<Value, AllocError>
-    ensures { IfOk result (λ value. view value ≡ hover_at encoding document.now.text place hovers.now) }
+    ensures { IfOk result (λ value. IsHoverAt (L.tells language.now) encoding document.now.text place known.now (view value)) }
 {
-    match first_at(place, hovers) {
+    match first_at(place, known) {
+        Some(hover) => hover_value(alloc, encoding, document, hover),
+        None => told_at(alloc, language, encoding, document, place),
+    }
+}
+
+// What the language tells at a place of a document.
+fn told_at<L: Language>(
+    alloc: Global,
+    language: &L,
+    encoding: Encoding,
+    document: &Document,
+    place: usize,
+) -> Result<Value, AllocError>
+    ensures { IfOk result (λ value. IsHoverAt (L.tells language.now) encoding document.now.text place [] (view value)) }
+{
+    let hover = language.hover(alloc, document.text(), place)?;
+    hover_or_null(alloc, encoding, document, &hover)
+}
+
+// A hover, or null where there is none.
+fn hover_or_null(
+    alloc: Global,
+    encoding: Encoding,
+    document: &Document,
+    hover: &Option<Hover>,
+) -> Result<Value, AllocError>
+    ensures { IfOk result (λ value. view value ≡ hover_or_null encoding document.now.text hover.now) }
+{
+    match hover {
         Some(hover) => hover_value(alloc, encoding, document, hover),
         None => Ok(Value::Null),
     }

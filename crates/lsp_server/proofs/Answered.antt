@@ -6,9 +6,10 @@ use Rattle.serde_json.specs.Data.{Data}
 use Rattle.serde_json.specs.View.{view}
 use Rattle.serde_json.specs.declared.value.Value.{Value}
 use Rattle.lsp_positions.specs.declared.position.Encoding.{Encoding}
+use Rattle.lsp_language.specs.Telling.{Telling}
 use Rattle.lsp_language.specs.declared.insight.Insight.{Insight}
 use Rattle.lsp_params.specs.declared.asking.Ask.{Ask}
-use Rattle.lsp_results.specs.Results.{result_of}
+use Rattle.lsp_results.specs.Results.{IsResult}
 use Rattle.lsp_server.specs.State.{Open, State}
 use Rattle.lsp_server.specs.Documents.{IsLearnt, learnt, published, MayLearn}
 use Rattle.lsp_server.specs.Life.{method_of, life_after, encoding_after}
@@ -28,13 +29,13 @@ use Rattle.lsp_server.specs.Sent.{frames}
 use Rattle.lsp_server.proofs.Kept.{is_read}
 
 -- The document at a place is known then, and stands there again.
-pub record IsKnown (tells : List ℕ → Insight → Type 0) (documents : List Open) (place : ℕ) (document new here : Open) : Type 0 where
+pub record IsKnown (tells : Telling) (documents : List Open) (place : ℕ) (document new here : Open) : Type 0 where
   pub insight : Insight
   pub is : IsLearnt tells document document.known insight
   pub new_is : new ≡ learnt document insight
   pub here_is : here ≡ learnt document insight
 
-pub known_at : (tells : List ℕ → Insight → Type 0) (documents : List Open) (place : ℕ) (item new here document : Open) → place < length documents →
+pub known_at : (tells : Telling) (documents : List Open) (place : ℕ) (item new here document : Open) → place < length documents →
     item ≡ get_or documents place item → (insight : Insight) × IsLearnt tells item item.known insight × (new ≡ learnt item insight) →
     here ≡ get_or (slice_set documents place new) place here → slice_get documents place ≡ Some document → IsKnown tells documents place document new here
 known_at tells documents place item new here document within read known again there =
@@ -47,21 +48,28 @@ known_at tells documents place item new here document within read known again th
       here_is = again ∙ get_or-set_same documents place new here within ∙ new_is;
     }
 
-pub answered_at : (tells : List ℕ → Insight → Type 0) (encoding : Encoding) (ask : Ask) (documents : List Open) (place : ℕ) (document new here : Open) (r : Result Value AllocError) →
+pub answered_at : (tells : Telling) (encoding : Encoding) (ask : Ask) (documents : List Open) (place : ℕ) (document new here : Open) (r : Result Value AllocError) →
     IsKnown tells documents place document new here →
-    ((insight : Insight) → here.known ≡ Some insight → IfOk r (λ v. view v ≡ result_of encoding here.content.text here.uri insight ask)) →
+    ((insight : Insight) → here.known ≡ Some insight → IfOk r (λ v. IsResult tells encoding here.content.text here.uri insight ask (view v))) →
     IfOk r (λ v. IsOfInsight tells encoding documents (slice_set documents place new) (place, document) ask (Ok (view v)))
 answered_at tells encoding ask documents place document new here r known tell =
-    go r (subst (λ (d : Open). (insight : Insight) → d.known ≡ Some insight → IfOk r (λ v. view v ≡ result_of encoding d.content.text d.uri insight ask))
+    go r (subst (λ (d : Open). (insight : Insight) → d.known ≡ Some insight → IfOk r (λ v. IsResult tells encoding d.content.text d.uri insight ask (view v)))
     known.here_is tell known.insight refl)
   where
-    go : (r : Result Value AllocError) → IfOk r (λ v. view v ≡ result_of encoding document.content.text document.uri known.insight ask) →
+    go : (r : Result Value AllocError) → IfOk r (λ v. IsResult tells encoding document.content.text document.uri known.insight ask (view v)) →
         IfOk r (λ v. IsOfInsight tells encoding documents (slice_set documents place new) (place, document) ask (Ok (view v)))
-    go (Ok v) told = record { insight = known.insight; is = known.is; kept = ap (slice_set documents place) known.new_is; told = ap Ok told }
+    go (Ok v) told = record {
+      insight = known.insight;
+      is = known.is;
+      kept = ap (slice_set documents place) known.new_is;
+      result = view v;
+      by = told;
+      told = refl;
+    }
     go (Err e) told = told
 
 -- what is published of it
-pub published_at : (tells : List ℕ → Insight → Type 0) (encoding : Encoding) (documents : List Open) (place : ℕ) (document new here again last : Open) (params : Value) (old out : List ℕ) →
+pub published_at : (tells : Telling) (encoding : Encoding) (documents : List Open) (place : ℕ) (document new here again last : Open) (params : Value) (old out : List ℕ) →
     place < length documents → IsKnown tells documents place document new here →
     ((insight : Insight) → here.known ≡ Some insight → view params ≡ published_of encoding here insight) →
     again ≡ get_or (slice_set documents place new) place again → last ≡ published again → out ≡ old ++ frame (compact_text (publish (view params))) →
@@ -86,13 +94,13 @@ on_err (Ok x) p = tt
 on_err (Err e) p = p
 
 -- a document may be known, and nothing else is changed
-pub as_before : (tells : List ℕ → Insight → Type 0) (was before : State) (documents : List Open) → was ≡ before → MayLearn tells was.documents documents →
+pub as_before : (tells : Telling) (was before : State) (documents : List Open) → was ≡ before → MayLearn tells was.documents documents →
     IsAsBefore tells before (record { life = was.life; encoding = was.encoding; documents = documents })
 as_before tells was before documents e may =
     subst (λ (s : State). IsAsBefore tells s (record { life = was.life; encoding = was.encoding; documents = documents })) e
     (record { life = refl; encoding = refl; documents = may })
 
-pub is_answered : (tells : List ℕ → Insight → Type 0) (was before : State) (life : Life) (encoding : Encoding) (documents : List Open) (method : Method) (params : Option Data) (answer : Answer) →
+pub is_answered : (tells : Telling) (was before : State) (life : Life) (encoding : Encoding) (documents : List Open) (method : Method) (params : Option Data) (answer : Answer) →
     was ≡ before → Answers tells was.life was.encoding was.documents documents method params answer → life ≡ life_after was.life method →
     encoding ≡ encoding_after was.life was.encoding method params →
     IsAnswered tells before (record { life = life; encoding = encoding; documents = documents }) method params answer
@@ -100,7 +108,7 @@ is_answered tells was before life encoding documents method params answer e answ
     subst (λ (s : State). IsAnswered tells s (record { life = life; encoding = encoding; documents = documents }) method params answer) e
     (record { answers = answers; life = lives; encoding = counts })
 
-pub acted_request : (tells : List ℕ → Insight → Type 0) (before after : State) (id : Id) (name : List ℕ) (method : Method) (params : Option Data) (old new : List ℕ) → method ≡ method_of name →
+pub acted_request : (tells : Telling) (before after : State) (id : Id) (name : List ℕ) (method : Method) (params : Option Data) (old new : List ℕ) → method ≡ method_of name →
     (answer : Answer) × IsAnswered tells before after method params answer × (new ≡ old ++ frame (compact_text (response id answer))) →
     IsActed tells before after (Request id name) params old new GoOn
 acted_request tells before after id name method params old new e found = record {
@@ -110,7 +118,7 @@ acted_request tells before after id name method params old new e found = record 
   flows = refl;
 }
 
-pub acted_malformed : (tells : List ℕ → Insight → Type 0) (state : State) (code : ErrorCode) (params : Option Data) (old new : List ℕ) →
+pub acted_malformed : (tells : Telling) (state : State) (code : ErrorCode) (params : Option Data) (old new : List ℕ) →
     new ≡ old ++ frame (compact_text (error_json None code)) → IsActed tells state state (Malformed code) params old new GoOn
 acted_malformed tells state code params old new sent = record {
   sent = error_json None code ∷ [];

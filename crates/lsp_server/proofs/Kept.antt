@@ -4,6 +4,7 @@ use Rattle.std.specs.Prelude.{slice_get, slice_set}
 use Rattle.std.specs.List.{remove}
 use Rattle.std.proofs.lemmas.Option.{slice_get_read, get_or_from_slice_get}
 use Rattle.lsp_positions.specs.declared.position.Encoding.{Encoding}
+use Rattle.lsp_language.specs.Telling.{Telling}
 use Rattle.lsp_language.specs.declared.insight.Insight.{Insight}
 use Rattle.lsp_documents.specs.Changes.{Replacement, all_changed}
 use Rattle.lsp_params.specs.declared.asking.Ask.{Ask}
@@ -40,12 +41,12 @@ pub closed_there : (old : List Open) (uri : List ℕ) (place : ℕ) → IsFirst 
 closed_there old uri place first = sym (ap (closed_at old) first.first)
 
 -- what is answered of the document at the place is what is answered of the one of the name
-pub of_first : (tells : List ℕ → Insight → Type 0) (encoding : Encoding) (uri : List ℕ) (old new : List Open) (place : ℕ) (ask : Ask) (answer : Answer) →
+pub of_first : (tells : Telling) (encoding : Encoding) (uri : List ℕ) (old new : List Open) (place : ℕ) (ask : Ask) (answer : Answer) →
     (first : IsFirst (is_of uri) old place) → IsOfInsight tells encoding old new (place, first.document) ask answer →
     OfDocument tells encoding old new (first_of (is_of uri) old) ask answer
 of_first tells encoding uri old new place ask answer first is = subst (λ found. OfDocument tells encoding old new found ask answer) (sym first.first) is
 
-pub learns : (tells : List ℕ → Insight → Type 0) (old new : List Open) (place : ℕ) (item : Open) (insight : Insight) → place < length old →
+pub learns : (tells : Telling) (old new : List Open) (place : ℕ) (item : Open) (insight : Insight) → place < length old →
     item ≡ get_or old place item → IsLearnt tells item item.known insight → new ≡ slice_set old place (learnt item insight) → MayLearn tells old new
 learns tells old new place item insight within read is kept =
     inr (place, item, insight, slice_get_read old (length old) place item refl within read, is, kept)
@@ -53,7 +54,7 @@ learns tells old new place item insight within read is kept =
 pub learnt_same : (document : Open) (insight : Insight) → document.known ≡ Some insight → document ≡ learnt document insight
 learnt_same document insight known = ap (λ (k : Option Insight). record { uri = document.uri; content = document.content; known = k; published = document.published }) known
 
-pub learnt_already : (tells : List ℕ → Insight → Type 0) (document : Open) (insight : Insight) → document.known ≡ Some insight →
+pub learnt_already : (tells : Telling) (document : Open) (insight : Insight) → document.known ≡ Some insight →
     (known : Insight) × IsLearnt tells document document.known known × (document ≡ learnt document known)
 learnt_already tells document insight known =
     (insight, subst (λ (k : Option Insight). IsLearnt tells document k insight) (sym known) refl, learnt_same document insight known)

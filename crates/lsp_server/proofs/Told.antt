@@ -4,6 +4,7 @@ use Rattle.std.specs.Prelude.{slice_set, option_and_then}
 use Rattle.std.specs.List.{remove}
 use Rattle.serde_json.specs.Data.{Data}
 use Rattle.lsp_positions.specs.declared.position.Encoding.{Encoding}
+use Rattle.lsp_language.specs.Telling.{Telling}
 use Rattle.lsp_language.specs.declared.insight.Insight.{Insight}
 use Rattle.lsp_documents.specs.Changes.{Replacement, all_changed}
 use Rattle.lsp_requests.specs.Kinds.{Kind, Request, Notification, Response, Malformed}
@@ -25,7 +26,7 @@ use Rattle.lsp_server.specs.declared.method.Method.TheVariants.{Initialize, Shut
 use Rattle.lsp_server.specs.declared.method.Notice.{Notice}
 use Rattle.lsp_server.specs.declared.method.Notice.TheVariants as n
 
-module _ (tells : List ℕ → Insight → Type 0) where
+module _ (tells : Telling) where
   set_told : (documents : List Open) (place : ℕ) (new : Open) → IsTold tells new.content.text new.known → AllTold tells documents → AllTold tells (slice_set documents place new)
   set_told [] place new told all = all
   set_told (d ∷ ds) zero new told all = (told, all.1)
@@ -59,9 +60,9 @@ module _ (tells : List ℕ → Insight → Type 0) where
       at rest false h = later rest (first_of test ds) refl h
 
   learnt_told : (document : Open) (known : Option Insight) (insight : Insight) → IsLearnt tells document known insight → IsTold tells document.content.text known →
-      tells document.content.text insight
+      tells.insight document.content.text insight
   learnt_told document None insight is told = is
-  learnt_told document (Some known) insight is told = subst (tells document.content.text) (sym is) told
+  learnt_told document (Some known) insight is told = subst (tells.insight document.content.text) (sym is) told
 
   document_told : (encoding : Encoding) (test : Open → Bool) (before after : List Open) (ask : Ask) (answer : Answer) (found : Option (ℕ × Open)) → first_of test before ≡ found →
       OfDocument tells encoding before after found ask answer → AllTold tells before → AllTold tells after

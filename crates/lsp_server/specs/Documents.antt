@@ -4,6 +4,7 @@ use Rattle.std.specs.Prelude.{slice_get, slice_set}
 use Rattle.std.specs.List.{remove}
 use Rattle.std.specs.Str.{bytes_eq}
 use Rattle.lsp_positions.specs.declared.position.Encoding.{Encoding}
+use Rattle.lsp_language.specs.Telling.{Telling}
 use Rattle.lsp_language.specs.declared.insight.Insight.{Insight}
 use Rattle.lsp_documents.specs.Changes.{Replacement, all_changed}
 use Rattle.lsp_server.specs.State.{Open}
@@ -58,15 +59,15 @@ abbrev pub closed : List Open → List ℕ → List Open
 closed documents uri = closed_at documents (first_of (is_of uri) documents)
 
 -- what is known of a document once it was asked for: what was known before, or what its language tells of its text
-abbrev pub IsLearnt : (List ℕ → Insight → Type 0) → Open → Option Insight → Insight → Type 0
-IsLearnt tells document None insight = tells document.content.text insight
+abbrev pub IsLearnt : Telling → Open → Option Insight → Insight → Type 0
+IsLearnt tells document None insight = tells.insight document.content.text insight
 IsLearnt tells document (Some known) insight = insight ≡ known
 
 abbrev pub learnt : Open → Insight → Open
 learnt document insight = record { uri = document.uri; content = document.content; known = Some insight; published = document.published }
 
 -- the documents are as before, but that one of them may be known
-abbrev pub MayLearn : (List ℕ → Insight → Type 0) → List Open → List Open → Type 0
+abbrev pub MayLearn : Telling → List Open → List Open → Type 0
 MayLearn tells before after =
     (after ≡ before)
     ⊎ ((place : ℕ) × (document : Open) × (insight : Insight) × (slice_get before place ≡ Some document)

@@ -5,6 +5,7 @@ use Rattle.serde_json.specs.View.{view}
 use Rattle.serde_json.specs.Written.{has_float}
 use Rattle.serde_json.specs.declared.value.Value.{Value}
 use Rattle.lsp_positions.specs.declared.position.Encoding.{Encoding}
+use Rattle.lsp_language.specs.Telling.{Telling}
 use Rattle.lsp_language.specs.declared.insight.Insight.{Insight}
 use Rattle.lsp_requests.specs.Kinds.{Id}
 use Rattle.lsp_requests.specs.Answers.{result_json, error_json}
@@ -14,7 +15,7 @@ use Rattle.lsp_params.specs.Agreed.{agreed}
 use Rattle.lsp_params.specs.Asks.{asked_of}
 use Rattle.lsp_params.specs.declared.asking.Ask.{Ask}
 use Rattle.lsp_results.specs.Capabilities.{initialized_json}
-use Rattle.lsp_results.specs.Results.{result_of}
+use Rattle.lsp_results.specs.Results.{IsResult}
 use Rattle.lsp_server.specs.State.{Open, State}
 use Rattle.lsp_server.specs.Documents.{is_of, first_of, IsLearnt, learnt}
 use Rattle.lsp_server.specs.Life.{life_after, encoding_after}
@@ -47,26 +48,28 @@ pub record Stays (before after : List Open) (is answer : Answer) : Type 0 where
   pub same : after ≡ before
   pub told : answer ≡ is
 
--- An answer by what is known of a document, which is known from then on.
-pub record IsOfInsight (tells : List ℕ → Insight → Type 0) (encoding : Encoding) (before after : List Open)
+-- An answer on a document by what is known of it, and by what its language tells besides. It is known from then on.
+pub record IsOfInsight (tells : Telling) (encoding : Encoding) (before after : List Open)
     (found : ℕ × Open) (ask : Ask) (answer : Answer) : Type 0 where
   pub insight : Insight
   pub is : IsLearnt tells found.1 found.1.known insight
   pub kept : after ≡ slice_set before found.0 (learnt found.1 insight)
-  pub told : answer ≡ Ok (result_of encoding found.1.content.text found.1.uri insight ask)
+  pub result : Data
+  pub by : IsResult tells encoding found.1.content.text found.1.uri insight ask result
+  pub told : answer ≡ Ok result
 
 -- what is asked of a document that is open, or not
-abbrev pub OfDocument : (List ℕ → Insight → Type 0) → Encoding → List Open → List Open → Option (ℕ × Open) → Ask → Answer → Type 0
+abbrev pub OfDocument : Telling → Encoding → List Open → List Open → Option (ℕ × Open) → Ask → Answer → Type 0
 OfDocument tells encoding before after None ask answer = Stays before after (Err InvalidParams) answer
 OfDocument tells encoding before after (Some found) ask answer = IsOfInsight tells encoding before after found ask answer
 
-abbrev pub OfText : (List ℕ → Insight → Type 0) → Encoding → List Open → List Open → Option (List ℕ × Ask) → Answer → Type 0
+abbrev pub OfText : Telling → Encoding → List Open → List Open → Option (List ℕ × Ask) → Answer → Type 0
 OfText tells encoding before after None answer = Stays before after (Err InvalidParams) answer
 OfText tells encoding before after (Some asked) answer =
     OfDocument tells encoding before after (first_of (is_of asked.0) before) asked.1 answer
 
 -- while the server runs
-abbrev pub OfRunning : (List ℕ → Insight → Type 0) → Encoding → List Open → List Open → Method → Option Data → Answer → Type 0
+abbrev pub OfRunning : Telling → Encoding → List Open → List Open → Method → Option Data → Answer → Type 0
 OfRunning tells encoding before after Initialize params answer = Stays before after (Err InvalidRequest) answer
 OfRunning tells encoding before after Shutdown params answer = Stays before after (Ok null) answer
 OfRunning tells encoding before after (About subject) params answer =
@@ -79,13 +82,13 @@ fresh_answer Initialize params = Ok (initialized_json (agreed params))
 fresh_answer method params = Err NotInitialized
 
 -- The answer to a request, and the documents then.
-abbrev pub Answers : (List ℕ → Insight → Type 0) → Life → Encoding → List Open → List Open → Method → Option Data → Answer → Type 0
+abbrev pub Answers : Telling → Life → Encoding → List Open → List Open → Method → Option Data → Answer → Type 0
 Answers tells Fresh encoding before after method params answer = Stays before after (fresh_answer method params) answer
 Answers tells Running encoding before after method params answer = OfRunning tells encoding before after method params answer
 Answers tells ShutDown encoding before after method params answer = Stays before after (Err InvalidRequest) answer
 
 -- A request is answered, and the state is this then.
-pub record IsAnswered (tells : List ℕ → Insight → Type 0) (before after : State) (method : Method)
+pub record IsAnswered (tells : Telling) (before after : State) (method : Method)
     (params : Option Data) (answer : Answer) : Type 0 where
   pub answers : Answers tells before.life before.encoding before.documents after.documents method params answer
   pub life : after.life ≡ life_after before.life method

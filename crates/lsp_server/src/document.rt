@@ -4,7 +4,7 @@ ghost use Rattle.serde_json.specs.View.{view};
 ghost use Rattle.serde_json.specs.Written.{has_float};
 ghost use Rattle.lsp_documents.specs.Changes.{all_changed, replacements};
 ghost use Rattle.lsp_language.specs.declared.insight.Insight.{Insight};
-ghost use Rattle.lsp_results.specs.Results.{result_of};
+ghost use Rattle.lsp_results.specs.Results.{IsResult};
 ghost use Rattle.lsp_server.specs.Documents.{is_of, is_unpublished, fresh, changed_to, IsLearnt, learnt, published};
 ghost use Rattle.lsp_server.specs.Notices.{published_of};
 
@@ -108,7 +108,7 @@ impl OpenDocument {
     fn ask<L: Language>(&mut self, alloc: Global, language: &L) -> Result<(), AllocError>
         requires { self.old.known ≡ None }
         ensures learnt { OnOk result ((insight : Insight)
-            × L.tells language.now self.old.content.text insight × (self.new ≡ learnt self.old insight)) }
+            × (L.tells language.now).insight self.old.content.text insight × (self.new ≡ learnt self.old insight)) }
         ensures kept { OnErr result (self.new ≡ self.old) }
     {
         let insight = language.insight(alloc, self.document.text())?;
@@ -117,31 +117,40 @@ impl OpenDocument {
     }
 
     /// What is answered where this is asked.
-    pub fn result(&self, alloc: Global, encoding: Encoding, ask: Ask) -> Result<Value, AllocError>
+    pub fn result<L: Language>(
+        &self,
+        alloc: Global,
+        language: &L,
+        encoding: Encoding,
+        ask: Ask,
+    ) -> Result<Value, AllocError>
         requires { IsSome self.now.known }
         ensures value { (insight : Insight) → self.now.known ≡ Some insight
-            → IfOk result (λ value. view value ≡ result_of encoding self.now.content.text self.now.uri insight ask) }
+            → IfOk result (λ value. IsResult (L.tells language.now) encoding self.now.content.text self.now.uri insight ask (view value)) }
         ensures plain { IfOk result (λ value. has_float (view value) ≡ false) }
     {
         match &self.known {
-            Some(insight) => self.result_by(alloc, encoding, insight, ask),
+            Some(insight) => self.result_by(alloc, language, encoding, insight, ask),
             None => unreachable!(),
         }
     }
 
-    // What is answered by what is known.
-    fn result_by(
+    // What is answered by what is known, and by what the language tells besides.
+    fn result_by<L: Language>(
         &self,
         alloc: Global,
+        language: &L,
         encoding: Encoding,
         insight: &Insight,
         ask: Ask,
     ) -> Result<Value, AllocError>
-        ensures value { IfOk result (λ value. view value ≡ result_of encoding self.now.content.text self.now.uri insight.now ask) }
+        ensures value { IfOk result (λ value.
+            IsResult (L.tells language.now) encoding self.now.content.text self.now.uri insight.now ask (view value)) }
         ensures plain { IfOk result (λ value. has_float (view value) ≡ false) }
     {
         result_value(
             alloc,
+            language,
             encoding,
             &self.document,
             self.uri.as_str(),

@@ -91,7 +91,7 @@ fn answer_at<L: Language>(
     ensures kept { MayLearn (L.tells language.now) documents.old.items documents.new.items }
 {
     documents[place].learn(alloc, language)?;
-    documents[place].result(alloc, encoding, ask)
+    documents[place].result(alloc, language, encoding, ask)
 }
 
 /// Opens a document, in the place of one that is open by its name.

@@ -5,7 +5,7 @@ use Rattle.std.specs.Result.{IsErrAnd}
 use Rattle.std.specs.Io.KnownBytes.{Consumes}
 use Rattle.raml_io.specs.Written.{grown, GrewByFront}
 use Rattle.raml_io.proofs.Grown.{grown-grown}
-use Rattle.lsp_language.specs.declared.insight.Insight.{Insight}
+use Rattle.lsp_language.specs.Telling.{Telling}
 use Rattle.lsp_frames.specs.Frames.{front, More, Whole}
 use Rattle.lsp_frames.proofs.Streams.{leaves_more, leaves_then}
 use Rattle.lsp_server.specs.State.{State}
@@ -44,7 +44,7 @@ grown_then held before after sent new one two = two ∙ ap (λ w. grown w new) o
 
 -- ---- going on
 
-pub begins : (tells : List ℕ → Insight → Type 0) (start : Streams) → GoesOn tells start (moment_of start.comes start.holds started [])
+pub begins : (tells : Telling) (start : Streams) → GoesOn tells start (moment_of start.comes start.holds started [])
 begins tells start = record {
   deeds = [];
   read = [];
@@ -55,7 +55,7 @@ begins tells start = record {
   wrote = nothing_grown start.holds;
 }
 
-pub fetched : (tells : List ℕ → Insight → Type 0) (start : Streams) (comes left holds : Option (List ℕ)) (state : State) (rest piece : List ℕ) →
+pub fetched : (tells : Telling) (start : Streams) (comes left holds : Option (List ℕ)) (state : State) (rest piece : List ℕ) →
     Consumes comes left piece → GoesOn tells start (moment_of comes holds state rest) → GoesOn tells start (moment_of left holds state (rest ++ piece))
 fetched tells start comes left holds state rest piece consumes on = record {
   deeds = on.deeds;
@@ -67,7 +67,7 @@ fetched tells start comes left holds state rest piece consumes on = record {
   wrote = on.wrote;
 }
 
-pub ended : (tells : List ℕ → Insight → Type 0) (start : Streams) (comes holds : Option (List ℕ)) (state : State) (rest : List ℕ) (last : Option (List ℕ)) (end : SessionEnd) →
+pub ended : (tells : Telling) (start : Streams) (comes holds : Option (List ℕ)) (state : State) (rest : List ℕ) (last : Option (List ℕ)) (end : SessionEnd) →
     (on : GoesOn tells start (moment_of comes holds state rest)) → EndsBy tells (grown start.holds on.sent) state rest (streams_of comes last) end →
     IsServed tells start (streams_of comes last) end
 ended tells start comes holds state rest last end on ends = record {
@@ -82,7 +82,7 @@ ended tells start comes holds state rest last end on ends = record {
   ends = ends;
 }
 
-module _ (tells : List ℕ → Insight → Type 0) (start : Streams) (comes before after : Option (List ℕ)) (state next_state : State) (rest next new : List ℕ) where
+module _ (tells : Telling) (start : Streams) (comes before after : Option (List ℕ)) (state next_state : State) (rest next new : List ℕ) where
   pub took : (content : List ℕ) → front rest ≡ Whole content next → Does tells (Took content) state next_state new GoOn → after ≡ grown before new →
       GoesOn tells start (moment_of comes before state rest) → GoesOn tells start (moment_of comes after next_state next)
   took content is does wrote on = record {
@@ -122,7 +122,7 @@ module _ (tells : List ℕ → Insight → Type 0) (start : Streams) (comes befo
 
 -- ---- what calls tell
 
-module _ (tells : List ℕ → Insight → Type 0) (state next : State) (old new : List ℕ) (empty : old ≡ []) where
+module _ (tells : Telling) (state next : State) (old new : List ℕ) (empty : old ≡ []) where
   pub took_so : (content : List ℕ) (flow want : Flow) → flow ≡ want → IsTaken tells content state next old new flow → Does tells (Took content) state next new want
   took_so content flow want same is =
       subst (λ flow. IsTaken tells content state next [] new flow) same (subst (λ old. IsTaken tells content state next old new flow) empty is)
@@ -136,7 +136,7 @@ wrote_all before after seen new same wrote = wrote ∙ ap (grown before) same
 pub wrote_front : (before after : Option (List ℕ)) (seen new : List ℕ) → seen ≡ new → GrewByFront before after seen → GrewByFront before after new
 wrote_front before after seen new same grew = subst (GrewByFront before after) same grew
 
-module _ (tells : List ℕ → Insight → Type 0) (comes left before after : Option (List ℕ)) (state middle last : State) (rest read now : List ℕ) where
+module _ (tells : Telling) (comes left before after : Option (List ℕ)) (state middle last : State) (rest read now : List ℕ) where
   fetched_so : IsFetched comes left read now → last ≡ middle → (start : Streams) → GoesOn tells start (moment_of comes after middle read) → GoesOn tells start (moment_of left after last now)
   fetched_so is same start on =
       subst (λ now. GoesOn tells start (moment_of left after last now)) (sym is.grew)
@@ -182,7 +182,7 @@ module _ (tells : List ℕ → Insight → Type 0) (comes left before after : Op
   fetch_ends (Err end) is more keeps = λ start on. stopped end is more start (keeps start on)
 
 -- a write that failed ends the session
-pub write_fails : {A : Type 0} (tells : List ℕ → Insight → Type 0) (now : Moment) (last : Streams) (r : Result A SessionEnd) → IsErrAnd r (λ end. end ≡ e.WriteFault) →
+pub write_fails : {A : Type 0} (tells : Telling) (now : Moment) (last : Streams) (r : Result A SessionEnd) → IsErrAnd r (λ end. end ≡ e.WriteFault) →
     EndsIn tells now last e.WriteFault → IfErr r (EndsIn tells now last)
 write_fails tells now last (Ok value) is ends = tt
 write_fails tells now last (Err end) is ends = subst (EndsIn tells now last) (sym is) ends

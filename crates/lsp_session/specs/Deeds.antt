@@ -1,6 +1,6 @@
 -- What a server does, one thing after another.
 use Rattle.std.specs.Prelude.{ℕ, ◌≡◌, Bool, List, [], ◌∷◌, ◌++◌}
-use Rattle.lsp_language.specs.declared.insight.Insight.{Insight}
+use Rattle.lsp_language.specs.Telling.{Telling}
 use Rattle.lsp_positions.specs.declared.position.Encoding.TheVariants.{Utf16}
 use Rattle.lsp_server.specs.State.{State}
 use Rattle.lsp_server.specs.Protocol.{IsTaken, IsSettled}
@@ -15,7 +15,7 @@ pub data Deed : Type 0 where
   Published : Deed
 
 -- the state before and after, what is sent, and whether it goes on
-abbrev pub Does : (List ℕ → Insight → Type 0) → Deed → State → State → List ℕ → Flow → Type 0
+abbrev pub Does : Telling → Deed → State → State → List ℕ → Flow → Type 0
 Does tells (Took content) before after sent flow = IsTaken tells content before after [] sent flow
 Does tells Published before after sent flow = ((found : Bool) × IsSettled tells before after [] sent found) × (flow ≡ GoOn)
 
@@ -23,7 +23,7 @@ abbrev pub started : State
 started = record { life = Fresh; encoding = Utf16; documents = [] }
 
 -- What it did from its start on, the latest first, the state then, and all that it sent. It goes on.
-abbrev pub Did : (List ℕ → Insight → Type 0) → List Deed → State → List ℕ → Type 0
+abbrev pub Did : Telling → List Deed → State → List ℕ → Type 0
 Did tells [] state sent = (state ≡ started) × (sent ≡ [])
 Did tells (deed ∷ earlier) state sent =
     (before : State) × (old : List ℕ) × (new : List ℕ)

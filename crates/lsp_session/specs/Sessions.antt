@@ -2,7 +2,7 @@
 use Rattle.std.specs.Prelude.{ℕ, ◌≡◌, List, [], ◌++◌, Option}
 use Rattle.std.specs.Io.KnownBytes.{Consumes, IsAtEnd}
 use Rattle.raml_io.specs.Written.{grown, GrewByFront}
-use Rattle.lsp_language.specs.declared.insight.Insight.{Insight}
+use Rattle.lsp_language.specs.Telling.{Telling}
 use Rattle.lsp_frames.specs.Frames.{front, More, Faulty, Whole, Leaves}
 use Rattle.lsp_server.specs.State.{State}
 use Rattle.lsp_server.specs.Life.{status_of}
@@ -30,7 +30,7 @@ abbrev pub moment_of : Option (List ℕ) → Option (List ℕ) → State → Lis
 moment_of comes holds state rest = record { streams = streams_of comes holds; state = state; rest = rest }
 
 -- From its start on, the server took each message that was read, once and in order, and what it sent is written.
-pub record GoesOn (tells : List ℕ → Insight → Type 0) (start : Streams) (now : Moment) : Type 0 where
+pub record GoesOn (tells : Telling) (start : Streams) (now : Moment) : Type 0 where
   pub deeds : List Deed
   pub read : List ℕ
   pub sent : List ℕ
@@ -39,7 +39,7 @@ pub record GoesOn (tells : List ℕ → Insight → Type 0) (start : Streams) (n
   pub left : Leaves read (taken deeds) now.rest
   pub wrote : now.streams.holds ≡ grown start.holds sent
 
-abbrev pub KeepsOn : (List ℕ → Insight → Type 0) → Moment → Moment → Type 0
+abbrev pub KeepsOn : Telling → Moment → Moment → Type 0
 KeepsOn tells before after = (start : Streams) → GoesOn tells start before → GoesOn tells start after
 
 -- A message is at the front of what was read, or none is where diagnostics are published.
@@ -48,7 +48,7 @@ IsNext rest (Took content) = (next : List ℕ) × (front rest ≡ Whole content 
 IsNext rest Published = front rest ≡ More
 
 -- The next message ends the server with this status, and what it sends is written.
-pub record Exits (tells : List ℕ → Insight → Type 0) (old now : Option (List ℕ)) (state : State) (rest : List ℕ) (status : ℕ) : Type 0 where
+pub record Exits (tells : Telling) (old now : Option (List ℕ)) (state : State) (rest : List ℕ) (status : ℕ) : Type 0 where
   pub content : List ℕ
   pub is_next : IsNext rest (Took content)
   pub last : State
@@ -57,7 +57,7 @@ pub record Exits (tells : List ℕ → Insight → Type 0) (old now : Option (Li
   pub wrote : now ≡ grown old new
 
 -- Of what the server sends next, not all is written.
-pub record WritesFront (tells : List ℕ → Insight → Type 0) (before after : Option (List ℕ)) (state : State) (rest : List ℕ) : Type 0 where
+pub record WritesFront (tells : Telling) (before after : Option (List ℕ)) (state : State) (rest : List ℕ) : Type 0 where
   pub deed : Deed
   pub is_next : IsNext rest deed
   pub last : State
@@ -67,7 +67,7 @@ pub record WritesFront (tells : List ℕ → Insight → Type 0) (before after :
   pub wrote : GrewByFront before after new
 
 -- why a session ends that went on until then, with what was written by then
-abbrev pub EndsBy : (List ℕ → Insight → Type 0) → Option (List ℕ) → State → List ℕ → Streams → SessionEnd → Type 0
+abbrev pub EndsBy : Telling → Option (List ℕ) → State → List ℕ → Streams → SessionEnd → Type 0
 EndsBy tells before state rest streams (e.Exited status) = Exits tells before streams.holds state rest status
 EndsBy tells before state rest streams (e.Closed status) =
     (front rest ≡ More) × IsAtEnd streams.comes × (status ≡ status_of state.life) × (streams.holds ≡ before)
@@ -76,7 +76,7 @@ EndsBy tells before state rest streams e.WriteFault = WritesFront tells before s
 EndsBy tells before state rest streams cause = streams.holds ≡ before
 
 -- A session that ended.
-pub record IsServed (tells : List ℕ → Insight → Type 0) (start last : Streams) (end : SessionEnd) : Type 0 where
+pub record IsServed (tells : Telling) (start last : Streams) (end : SessionEnd) : Type 0 where
   pub deeds : List Deed
   pub read : List ℕ
   pub rest : List ℕ
@@ -87,7 +87,7 @@ pub record IsServed (tells : List ℕ → Insight → Type 0) (start last : Stre
   pub left : Leaves read (taken deeds) rest
   pub ends : EndsBy tells (grown start.holds sent) state rest last end
 
-abbrev pub EndsIn : (List ℕ → Insight → Type 0) → Moment → Streams → SessionEnd → Type 0
+abbrev pub EndsIn : Telling → Moment → Streams → SessionEnd → Type 0
 EndsIn tells before last end = (start : Streams) → GoesOn tells start before → IsServed tells start last end
 
 -- A piece of what comes is read behind what was read before.

@@ -9,7 +9,7 @@ use Rattle.linear_rows.specs.Systems.{LinearSystem, ProvesLeast}
 use Rattle.frac128.specs.declared.Frac.{Frac}
 use Rattle.simplex_spec.specs.Tableaux.{Tableau, opening, pivot, solution, dual, ray}
 use Rattle.simplex_spec.specs.Courses.{Rule, IsPivot, Leads, FollowsFrom, Refuses, AtOpening, AtPivot, rule_by}
-use Rattle.simplex.specs.Solving.{IsBest, IsRefuted}
+use Rattle.simplex.specs.Solving.{IsBest, IsRefuted, CutsBy}
 use Rattle.simplex_integers.specs.Wholes.{most, AreLeastWholes, ScaleLeaves}
 use Rattle.simplex_integers.specs.Denominators.{over, all_over}
 use Rattle.simplex_integers.specs.Laws.{AreNatural, LeastDenominators, RefusedEntriesLeave}
@@ -73,6 +73,27 @@ module _ (pick : List ℤ → ℤ → Option ℕ) (rule : Rule) (more : (ns : Li
   refuses_by ps i c (AtOpening e n) = AtOpening e n
   refuses_by ps i c (AtPivot t e course follows enters answers refused) =
       AtPivot t e course (follows_by (opening s) ps t opens course.leads follows) enters (more _ _ _ (positive_along (opening s) ps t opens course.leads) answers) refused
+
+  -- and where it is cut
+  pub cuts_by : (limit : Option ℕ) → CutsBy rule s limit → CutsBy (rule_by pick) s limit
+  cuts_by limit b =
+      let cut = b.cut in
+      record {
+        limit = b.limit;
+        is_limit = b.is_limit;
+        pivots = b.pivots;
+        cut = record {
+          t = cut.t;
+          column = cut.column;
+          course = cut.course;
+          follows = follows_by (opening s) b.pivots cut.t opens cut.course.leads cut.follows;
+          count = cut.count;
+          enters = cut.enters;
+          answers = more _ _ _ (positive_along (opening s) b.pivots cut.t opens cut.course.leads) cut.answers;
+          row = cut.row;
+          bounds = cut.bounds;
+        };
+      }
 
 pub are_least : (rule : Rule) (s : LinearSystem) (ps : List (ℕ × ℕ)) (x y : List Frac) → IsBest rule s ps x y → AreLeast s x y
 are_least rule s ps x y h = record {
@@ -221,15 +242,13 @@ abbrev pub IsMore : (List ℤ → ℤ → Option ℕ) → Rule → Type 0
 IsMore pick rule = (ns : List ℤ) (d : ℤ) (o : Option ℕ) → pos 0 <ℤ d → rule ns d o → pick ns d ≡ o
 
 module _ (law : LeastDenominators) (rule : Rule) (s : LinearSystem) (ps : List (ℕ × ℕ)) where
-  pub best_ok : (x y : List Frac) → IsBest rule s ps x y → (r : Result Answer AnswerFault) → IfOk r (IsLeastAnswer s x y) →
-      IfOk r (λ answer. (pick : List ℤ → ℤ → Option ℕ) → IsMore pick rule → IsAnswer (rule_by pick) s answer)
-  best_ok x y h (Ok answer) k = λ pick more. is_least law (rule_by pick) s ps x y (best_by pick rule more s ps x y h) answer k
-  best_ok x y h (Err fault) k = tt
+  pub best_answers : (x y : List Frac) → IsBest rule s ps x y → (answer : Answer) → IsLeastAnswer s x y answer →
+      (pick : List ℤ → ℤ → Option ℕ) → IsMore pick rule → IsAnswer (rule_by pick) s answer
+  best_answers x y h answer k pick more = is_least law (rule_by pick) s ps x y (best_by pick rule more s ps x y h) answer k
 
-  pub best_err : (x y : List Frac) → IsBest rule s ps x y → RefusedEntriesLeave → (r : Result Answer AnswerFault) → IfErr r (LeastFails s x y) →
-      IfErr r (λ fault. (pick : List ℤ → ℤ → Option ℕ) → IsMore pick rule → Stops (rule_by pick) s fault)
-  best_err x y h entries (Ok answer) k = tt
-  best_err x y h entries (Err fault) k = λ pick more. least_stops law (rule_by pick) s ps x y (best_by pick rule more s ps x y h) entries fault k
+  pub best_fails : (x y : List Frac) → IsBest rule s ps x y → RefusedEntriesLeave → (fault : AnswerFault) → LeastFails s x y fault →
+      (pick : List ℤ → ℤ → Option ℕ) → IsMore pick rule → Stops (rule_by pick) s fault
+  best_fails x y h entries fault k pick more = least_stops law (rule_by pick) s ps x y (best_by pick rule more s ps x y h) entries fault k
 
   pub vector_ok : (y : List Frac) → IsRefuted rule s ps y → (answer : Answer) → IsVectorAnswer s y answer →
       (pick : List ℤ → ℤ → Option ℕ) → IsMore pick rule → IsAnswer (rule_by pick) s answer

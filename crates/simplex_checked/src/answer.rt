@@ -13,3 +13,13 @@ pub enum Answer {
         numbers: Vec<i128>,
     },
 }
+
+/// What a system comes to with a limit of pivots.
+#[derive(Debug, Drop)]
+pub enum Within {
+    /// This, after so many pivots.
+    Answered { answer: Answer, pivots: usize },
+    /// As many pivots are made as the limit, and neither end is reached: that no gain is left, or that no row
+    /// bounds the rule's column.
+    Cut,
+}

@@ -9,8 +9,8 @@ mod rules;
 mod solving;
 mod wholes;
 
-pub use answer::Answer;
+pub use answer::{Answer, Within};
 pub use fault::AnswerFault;
 pub use named::{answer_by_greatest, answer_by_least};
 pub use rules::{greatest_column, least_column};
-pub use solving::{answer_alone, whole_answer};
+pub use solving::{answer_alone, whole_answer, whole_answer_within};

@@ -1,10 +1,11 @@
-use Rattle.std.proofs.Common.{true, map, option_map, sym, ap, ◌∙◌, arith}
+use Rattle.std.proofs.Common.{true, map, option_map, refl, sym, ap, ◌∙◌, arith}
 use Rattle.cost_free.specs.Read.{task_of}
 use Rattle.annot_types.specs.Certificate.{outcome}
 use Rattle.annot_types.specs.Program.{results}
 use Rattle.rules_plan.specs.Read.{program_in}
 use Rattle.cert_check.proofs.Tasks.{task_is_low}
 use Rattle.bound_infer.specs.Keeping.{state_of, analysis_in}
+use Rattle.bound_infer.specs.Pivots.{Waiting}
 use Rattle.bound_infer.proofs.Stepping.{waits_step, stands_at, begins}
 use Rattle.bound_infer.proofs.step.at_task.Goals as goal
 
@@ -31,5 +32,10 @@ tried-requires-clause-stands g c =
 
 pub returns-in-Ok-clause-steps : goal.returns-in-Ok-clause-steps
 returns-in-Ok-clause-steps g c = λ pick by.
-    waits_step (analysis_in c.args.program.now c.args.d pick) (state_of c.args.run.now) (state_of c.waits.new.run) (task_of c.args.task.now) (c.requires.here pick by) c.in-Some.fun.0
-    (sym c.waits_for.ensures ∙ ap (option_map (λ f. f.0)) c.in-Some.is) c.in-Ok.ensures.state
+    let A = analysis_in c.args.program.now c.args.d pick in
+    let here = c.requires.here pick by in
+    let waits = sym c.waits_for.ensures ∙ ap (option_map (λ f. f.0)) c.in-Some.is in (
+      waits_step A (state_of c.args.run.now) (state_of c.waits.new.run) (task_of c.args.task.now) here c.in-Some.fun.0 waits c.in-Ok.ensures.state,
+      record { task = task_of c.args.task.now; is_next = here.is_next; takes = Waiting c.in-Some.fun.0 waits refl },
+      λ m e. omega arith,
+    )

@@ -19,3 +19,6 @@ returns-in_ok-push-in-Err c =
       refused = rw c.in_ok-push-in-Err.ensures.items
           (refused_more N c.args.found.now.refused.items at c.requires.before.refused (subst (λ d. RefusedAt N d at.fault) (sym told.degree) why));
     }
+
+pub returns-in-Ok-None : goal.returns-in-Ok-None
+returns-in-Ok-None c = record { least = c.requires.before; given_up = rw c.in-Ok-None.field-0-is at c.in-Ok-None.ensures.given_up }

@@ -8,6 +8,6 @@ returns-clause-learnt g c =
     let insight = c.in_ok-insight.insight in
     let text_is = c.text.ensures ∙ ap (λ (d : Open). d.content.text) c.self.view_is in (
       insight,
-      subst (λ text. g.L.Language.tells c.args.language.now text insight) text_is c.in_ok-insight.ensures,
+      subst (λ text. (g.L.Language.tells c.args.language.now).insight text insight) text_is c.in_ok-insight.ensures,
       ap (λ (d : Open). learnt d insight) c.self.view_is,
     )

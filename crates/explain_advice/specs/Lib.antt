@@ -1,0 +1,4 @@
+pub mod Advice
+pub mod Changes
+pub mod GivenUp
+pub mod Information

@@ -1,0 +1,9 @@
+-- What a language tells.
+use Rattle.std.specs.Prelude.{ℕ, List, Option}
+use Rattle.lsp_language.specs.declared.insight.Insight.{Insight}
+use Rattle.lsp_language.specs.declared.insight.Hover.{Hover}
+
+-- what it tells of a text, whose bytes come first, and at a byte of a text at which that has no hover
+pub record Telling : Type 1 where
+  pub insight : List ℕ → Insight → Type 0
+  pub hover : List ℕ → ℕ → Option Hover → Type 0
