@@ -15,7 +15,7 @@ one_point (Ok a) m x y seen title old new same is appended = (circle x y (title_
 one_point (Err e) m x y seen title old new same is appended = tt
 
 -- the first before the rest of a slice
-cut_first : {X : Type 0} (xs : List X) (d : X) → 1 ≤ length xs → slice_index_or xs 0 d ∷ take (length xs - 1) (drop 1 xs) ≡ xs
+pub cut_first : {X : Type 0} (xs : List X) (d : X) → 1 ≤ length xs → slice_index_or xs 0 d ∷ take (length xs - 1) (drop 1 xs) ≡ xs
 cut_first [] d h = absurd (omega (arith, h))
 cut_first (y ∷ ys) d h = ap (λ zs. y ∷ zs) (ap (λ k. take k ys) less ∙ take-length ys)
   where

@@ -1,1 +1,1 @@
-mod Drawn
+pub mod Drawn

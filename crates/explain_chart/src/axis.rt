@@ -4,7 +4,7 @@ use crate::scale::{place, power_above, power_below};
 
 /// How far numbers reach: the least that is not zero, the greatest, and whether one is zero.
 #[derive(Clone, Copy)]
-pub(crate) struct Extent {
+pub struct Extent {
     least: Option<u128>,
     most: u128,
     zero: bool,
@@ -43,7 +43,7 @@ impl Extent {
 }
 
 /// The extent of the sizes of runs.
-pub(crate) fn sizes_of(marks: &[Mark<'_>]) -> Extent {
+pub fn sizes_of(marks: &[Mark<'_>]) -> Extent {
     let mut extent = Extent::none();
     for mark in marks {
         extent = extent.with(u128::from(mark.size));
@@ -52,7 +52,7 @@ pub(crate) fn sizes_of(marks: &[Mark<'_>]) -> Extent {
 }
 
 /// The extent of their costs and bounds.
-pub(crate) fn costs_of(marks: &[Mark<'_>]) -> Extent {
+pub fn costs_of(marks: &[Mark<'_>]) -> Extent {
     let mut extent = Extent::none();
     for mark in marks {
         extent = extent.with_costs(mark);
@@ -62,12 +62,12 @@ pub(crate) fn costs_of(marks: &[Mark<'_>]) -> Extent {
 
 /// A logarithmic axis.
 #[derive(Clone, Copy)]
-pub(crate) struct Axis {
+pub struct Axis {
     /// The ends of the logarithmic range.
-    pub(crate) low: u128,
-    pub(crate) high: u128,
+    pub low: u128,
+    pub high: u128,
     /// Whether zero has a place before it.
-    pub(crate) zero: bool,
+    pub zero: bool,
     /// How far it stands from the place of zero.
     gap: u32,
     length: u32,
@@ -75,7 +75,7 @@ pub(crate) struct Axis {
 
 impl Axis {
     /// From the least number to the greatest.
-    pub(crate) fn exact(extent: Extent, gap: u32, length: u32) -> Axis {
+    pub fn exact(extent: Extent, gap: u32, length: u32) -> Axis {
         Axis {
             low: extent.least.unwrap_or(1),
             high: extent.most,
@@ -86,7 +86,7 @@ impl Axis {
     }
 
     /// From a power of 10 to another one.
-    pub(crate) fn by_powers(extent: Extent, gap: u32, length: u32) -> Axis {
+    pub fn by_powers(extent: Extent, gap: u32, length: u32) -> Axis {
         let low = power_below(extent.least.unwrap_or(1));
         Axis {
             low,
@@ -96,7 +96,7 @@ impl Axis {
     }
 
     /// How far from its start a number lies.
-    pub(crate) fn at(self, number: u128) -> u32 {
+    pub fn at(self, number: u128) -> u32 {
         if number == 0 {
             return 0;
         }

@@ -13,5 +13,9 @@ mod points;
 mod scale;
 mod style;
 
+pub use axis::{Axis, Extent, costs_of, sizes_of};
 pub use chart::{Chart, draw};
+pub use line::{Knot, knots};
 pub use mark::Mark;
+pub use number::push_round;
+pub use points::title_of;

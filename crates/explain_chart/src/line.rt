@@ -7,13 +7,13 @@ use std::fmt::Write;
 
 /// The greatest bound at a size.
 #[derive(Clone, Copy)]
-pub(crate) struct Knot {
-    size: u32,
-    bound: u128,
+pub struct Knot {
+    pub size: u32,
+    pub bound: u128,
 }
 
 /// The greatest bound at each size where there is one.
-pub(crate) fn knots(alloc: Global, marks: &[Mark<'_>]) -> Result<Vec<Knot>, AllocError> {
+pub fn knots(alloc: Global, marks: &[Mark<'_>]) -> Result<Vec<Knot>, AllocError> {
     let mut knots = Vec::new(alloc);
     for mark in marks {
         if let Some(bound) = mark.bound {

@@ -13,7 +13,7 @@ pub(crate) fn push_grouped(text: &mut String, number: u128) -> Result<(), AllocE
 }
 
 /// Appends a round number: from a million on by `M`, `G` or `T`, and from 10^15 on by its power of 10.
-pub(crate) fn push_round(text: &mut String, number: u128) -> Result<(), AllocError> {
+pub fn push_round(text: &mut String, number: u128) -> Result<(), AllocError> {
     match number {
         0..=999_999 => push_grouped(text, number),
         1_000_000..=999_999_999 => push_unit(text, number / 1_000_000, "M"),

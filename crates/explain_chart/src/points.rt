@@ -55,7 +55,7 @@ fn push_circle(text: &mut String, x: u32, y: u32, title: &str) -> Result<(), All
 }
 
 /// What is told of a run.
-fn title_of(alloc: Global, mark: &Mark<'_>) -> Result<String, AllocError>
+pub fn title_of(alloc: Global, mark: &Mark<'_>) -> Result<String, AllocError>
     ensures { IfOk result (λ text. string_bytes text ≡ title_of (mark_in mark.now)) }
 {
     let Mark {

@@ -1,0 +1,8 @@
+use Rattle.std.proofs.Common.{arith}
+use Rattle.std.proofs.lemmas.Grind.{common_steps}
+use Rattle.explain_html.specs.Html.{attributes_in}
+use Rattle.explain_html.proofs.Standing.{words_element}
+use Rattle.explain_html.proofs.html.Html.element.Goals as goal
+
+pub invariant_of-self-2 : goal.invariant_of-self-2
+invariant_of-self-2 c = words_element c.args.tag (attributes_in c.args.attributes.now) c.args.words.now c.self.invariant (grind (arith, common_steps))

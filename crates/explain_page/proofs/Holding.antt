@@ -1,0 +1,70 @@
+-- What stands in a part stands in all that holds the part.
+use Rattle.std.proofs.Common.{◌≡◌, List, [], ◌++◌, Result, Ok, Err, IfOk, OnOk, refl, sym, subst, ap, ◌∙◌, append_assoc, append-nil}
+use Rattle.explain_html.specs.Escaped.{Text, escaped}
+use Rattle.explain_html.specs.Names.{tag_name}
+use Rattle.explain_html.specs.Html.{Attribute, IsHtml, around, start_text, end_text}
+use Rattle.explain_html.specs.declared.tag.Tag.{Tag}
+use Rattle.explain_page.specs.Policy.{policy_text}
+use Rattle.explain_page.specs.Table.{rows_text, choices_text}
+use Rattle.explain_page.specs.Page.{Holds, Shows, framed_text}
+use Rattle.explain_page.specs.declared.page.Page.{Page}
+
+pub holds_same : {part whole text : Text} → Holds part whole → text ≡ whole → Holds part text
+holds_same {part = part} h is = subst (Holds part) (sym is) h
+
+pub holds_first : (part first second : Text) → Holds part first → Holds part (first ++ second)
+holds_first part first second h = record {
+  before = h.before;
+  behind = h.behind ++ second;
+  is = ap (λ t. t ++ second) h.is ∙ append_assoc h.before (part ++ h.behind) second ∙ ap (λ t. h.before ++ t) (append_assoc part h.behind second);
+}
+
+pub holds_second : (part first second : Text) → Holds part second → Holds part (first ++ second)
+holds_second part first second h = record {
+  before = first ++ h.before;
+  behind = h.behind;
+  is = ap (λ t. first ++ t) h.is ∙ sym (append_assoc first h.before (part ++ h.behind));
+}
+
+-- at the end
+pub holds_last : (part first : Text) {text : Text} → text ≡ first ++ part → Holds part text
+holds_last part first is = record { before = first; behind = []; is = is ∙ ap (λ t. first ++ t) (sym (append-nil part)) }
+
+-- in an element behind something
+pub holds_around : (part before content : Text) (t : Tag) (attributes : List Attribute) → Holds part content → Holds part (before ++ around t attributes content)
+holds_around part before content t attributes h =
+    let start = start_text (tag_name t) attributes in
+    holds_second part before (around t attributes content) (holds_second part start (content ++ end_text t) (holds_first part content (end_text t) h))
+
+-- behind which something is appended
+pub holds_more : {part old new : Text} → Holds part old → ((more : Text) × (new ≡ old ++ more)) → Holds part new
+holds_more {part = part} {old = old} h more = holds_same (holds_first part old more.0 h) more.1
+
+-- ---- behind a call that may fail
+
+pub held_around : {A E : Type 0} (r : Result A E) (part old content : Text) {new : Text} (t : Tag) (attributes : List Attribute) →
+    Holds part content → OnOk r (new ≡ old ++ around t attributes content) → OnOk r (Holds part new)
+held_around (Ok a) part old content t attributes h is = holds_same (holds_around part old content t attributes h) is
+held_around (Err e) part old content t attributes h is = tt
+
+pub held_more : {A E : Type 0} (r : Result A E) {part old new : Text} → Holds part old → OnOk r ((more : Text) × (new ≡ old ++ more)) → OnOk r (Holds part new)
+held_more (Ok a) h more = holds_more h more
+held_more (Err e) h more = tt
+
+pub held_behind : {A E : Type 0} (r : Result A E) {part old new : Text} (more : Text) → Holds part old → OnOk r (new ≡ old ++ more) → OnOk r (Holds part new)
+held_behind (Ok a) more h is = holds_more h (more, is)
+held_behind (Err e) more h is = tt
+
+-- a page with a body that shows it
+pub shown : {T E : Type 0} (bytes : T → Text) (r : Result T E) (p : Page) (style script policy title content body : Text) →
+    policy ≡ escaped (policy_text style script) → title ≡ escaped p.name.now → body ≡ content → IsHtml body →
+    Holds (rows_text p.functions.now) content → Holds (choices_text p.functions.now) content →
+    IfOk r (λ text. bytes text ≡ framed_text policy title style script body) → IfOk r (λ text. Shows p style script (bytes text))
+shown bytes (Ok text) p style script policy title content body allows names whole html table choices is = record {
+  body = body;
+  html = html;
+  table = holds_same table whole;
+  choices = holds_same choices whole;
+  is = is ∙ (λ i. framed_text (allows i) (names i) style script body);
+}
+shown bytes (Err e) p style script policy title content body allows names whole html table choices is = tt

@@ -1,0 +1,9 @@
+use Rattle.std.proofs.Common.{[], ◌∷◌, codes}
+use Rattle.explain_html.specs.declared.tag.Tag.TheVariants as tag
+use Rattle.explain_html.specs.declared.key.Key.TheVariants as key
+use Rattle.explain_page.proofs.Holding.{held_around}
+use Rattle.explain_page.proofs.calculator.push_calculator.Goals as goal
+
+pub returns-clause-choices : goal.returns-clause-choices
+returns-clause-choices c =
+    held_around c.around.result _ c.args.html.now _ tag.Section ((key.Id, codes "try") ∷ (key.Hidden, []) ∷ []) c.in_ok-section.ensures c.around.ensures

@@ -1,0 +1,9 @@
+use Rattle.std.proofs.Common.{[], ◌∷◌, codes}
+use Rattle.explain_html.specs.declared.tag.Tag.TheVariants as tag
+use Rattle.explain_html.specs.declared.key.Key.TheVariants as key
+use Rattle.explain_page.proofs.Holding.{held_around}
+use Rattle.explain_page.proofs.calculator.push_fields.Goals as goal
+
+pub returns : goal.returns
+returns c =
+    held_around c.around.result _ c.args.html.now _ tag.Div ((key.Class, codes "calculator") ∷ (key.Id, codes "calculator") ∷ []) c.in_ok-fields.ensures c.around.ensures

@@ -1,0 +1,3 @@
+pub mod Policy
+pub mod Table
+pub mod Page
