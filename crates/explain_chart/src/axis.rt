@@ -12,7 +12,7 @@ pub struct Extent {
 
 impl Extent {
     /// Of no number.
-    fn none() -> Extent {
+    pub fn none() -> Extent {
         Extent {
             least: None,
             most: 1,
@@ -21,7 +21,7 @@ impl Extent {
     }
 
     /// With one number more.
-    fn with(self, number: u128) -> Extent {
+    pub fn with(self, number: u128) -> Extent {
         if number == 0 {
             return Extent { zero: true, ..self };
         }
@@ -33,17 +33,22 @@ impl Extent {
     }
 
     /// With the cost and the bound of a run.
-    fn with_costs(self, mark: &Mark<'_>) -> Extent {
+    pub fn with_costs(self, mark: &Mark<'_>) -> Extent {
         let with_cost = self.with(u128::from(mark.cost));
         match mark.bound {
             Some(bound) => with_cost.with(bound),
             None => with_cost,
         }
     }
+
+    /// The greatest number, at least 1.
+    pub fn most(self) -> u128 {
+        self.most
+    }
 }
 
 /// The extent of the sizes of runs.
-pub fn sizes_of(marks: &[Mark<'_>]) -> Extent {
+pub(crate) fn sizes_of(marks: &[Mark<'_>]) -> Extent {
     let mut extent = Extent::none();
     for mark in marks {
         extent = extent.with(u128::from(mark.size));
@@ -52,7 +57,7 @@ pub fn sizes_of(marks: &[Mark<'_>]) -> Extent {
 }
 
 /// The extent of their costs and bounds.
-pub fn costs_of(marks: &[Mark<'_>]) -> Extent {
+pub(crate) fn costs_of(marks: &[Mark<'_>]) -> Extent {
     let mut extent = Extent::none();
     for mark in marks {
         extent = extent.with_costs(mark);

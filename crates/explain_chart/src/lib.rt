@@ -13,9 +13,10 @@ mod points;
 mod scale;
 mod style;
 
-pub use axis::{Axis, Extent, costs_of, sizes_of};
+pub use axis::{Axis, Extent};
 pub use chart::{Chart, draw};
 pub use line::{Knot, knots};
 pub use mark::Mark;
 pub use number::push_round;
 pub use points::title_of;
+pub use scale::power_below;

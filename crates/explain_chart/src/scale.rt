@@ -75,7 +75,7 @@ pub(crate) fn place(number: u128, low: u128, high: u128, length: u32) -> u32 {
 }
 
 /// The greatest power of 10 that is at most the number; 1 for 0.
-pub(crate) fn power_below(number: u128) -> u128 {
+pub fn power_below(number: u128) -> u128 {
     let mut power = 1u128;
     for _ in 0..38 {
         if power <= number / 10 {

@@ -1,3 +1,5 @@
+pub mod Parts
 pub mod Policy
 pub mod Table
+pub mod Source
 pub mod Page

@@ -1,7 +1,6 @@
 // The body of a page.
 ghost use Rattle.std.specs.Prelude.{IfOk, OnOk};
-ghost use Rattle.explain_page.specs.Table.{rows_text, choices_text};
-ghost use Rattle.explain_page.specs.Page.{Holds};
+ghost use Rattle.explain_page.specs.Page.{Tells};
 
 use crate::calculator::push_calculator;
 use crate::cause::push_causes;
@@ -16,8 +15,7 @@ use std::alloc::{AllocError, Global};
 
 /// The body of the page, but for the script.
 pub(crate) fn body(alloc: Global, page: &Page<'_>) -> Result<Html, AllocError>
-    ensures table { IfOk result (λ html. Holds (rows_text page.now.functions.now) html) }
-    ensures choices { IfOk result (λ html. Holds (choices_text page.now.functions.now) html) }
+    ensures { IfOk result (λ html. Tells page.now html) }
 {
     let mut html = Html::new(alloc);
     push_body(alloc, &mut html, page)?;
@@ -26,8 +24,7 @@ pub(crate) fn body(alloc: Global, page: &Page<'_>) -> Result<Html, AllocError>
 
 // Appends the way past the head, and the page.
 fn push_body(alloc: Global, html: &mut Html, page: &Page<'_>) -> Result<(), AllocError>
-    ensures table { OnOk result (Holds (rows_text page.now.functions.now) html.new) }
-    ensures choices { OnOk result (Holds (choices_text page.now.functions.now) html.new) }
+    ensures { OnOk result (Tells page.now html.new) }
 {
     html.element(
         Tag::A,
@@ -40,8 +37,7 @@ fn push_body(alloc: Global, html: &mut Html, page: &Page<'_>) -> Result<(), Allo
 
 // The head, the sections and the foot.
 fn content(alloc: Global, page: &Page<'_>) -> Result<Html, AllocError>
-    ensures table { IfOk result (λ html. Holds (rows_text page.now.functions.now) html) }
-    ensures choices { IfOk result (λ html. Holds (choices_text page.now.functions.now) html) }
+    ensures { IfOk result (λ html. Tells page.now html) }
 {
     let mut html = Html::new(alloc);
     push_top(alloc, &mut html, page)?;
@@ -51,8 +47,7 @@ fn content(alloc: Global, page: &Page<'_>) -> Result<Html, AllocError>
 
 // Appends the sections and the foot.
 fn push_main(alloc: Global, html: &mut Html, page: &Page<'_>) -> Result<(), AllocError>
-    ensures table { OnOk result (Holds (rows_text page.now.functions.now) html.new) }
-    ensures choices { OnOk result (Holds (choices_text page.now.functions.now) html.new) }
+    ensures { OnOk result (Tells page.now html.new) }
 {
     let sections = sections(alloc, page)?;
     html.around(Tag::Main, &[], &sections)?;
@@ -64,8 +59,7 @@ fn push_main(alloc: Global, html: &mut Html, page: &Page<'_>) -> Result<(), Allo
 }
 
 fn sections(alloc: Global, page: &Page<'_>) -> Result<Html, AllocError>
-    ensures table { IfOk result (λ html. Holds (rows_text page.now.functions.now) html) }
-    ensures choices { IfOk result (λ html. Holds (choices_text page.now.functions.now) html) }
+    ensures { IfOk result (λ html. Tells page.now html) }
 {
     let mut html = Html::new(alloc);
     push_sections(alloc, &mut html, page)?;
@@ -74,13 +68,12 @@ fn sections(alloc: Global, page: &Page<'_>) -> Result<Html, AllocError>
 
 // Appends the sections of the page, in the order in which they are read.
 fn push_sections(alloc: Global, html: &mut Html, page: &Page<'_>) -> Result<(), AllocError>
-    ensures table { OnOk result (Holds (rows_text page.now.functions.now) html.new) }
-    ensures choices { OnOk result (Holds (choices_text page.now.functions.now) html.new) }
+    ensures { OnOk result (Tells page.now html.new) }
 {
     push_table(alloc, html, page)?;
     push_causes(alloc, html, page)?;
     push_promise(alloc, html, page)?;
     push_calculator(alloc, html, page)?;
     push_source(alloc, html, page)?;
-    push_runs(alloc, html, page)
+    push_runs(alloc, html, &page.runs)
 }

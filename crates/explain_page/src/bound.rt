@@ -1,19 +1,23 @@
 // A bound.
-ghost use Rattle.std.specs.Prelude.{◌≡◌, [], ◌∷◌, ◌++◌, IfOk, codes};
-ghost use Rattle.explain_html.specs.Escaped.{escaped};
-ghost use Rattle.explain_html.specs.Html.{around};
-ghost use Rattle.explain_html.specs.declared.tag.Tag.TheVariants as tag;
-ghost use Rattle.explain_html.specs.declared.key.Key.TheVariants as key;
-ghost use Rattle.explain_page.specs.Table.{bound_text, none_text, folded_text};
+ghost use Rattle.std.specs.Prelude.{◌≡◌, ◌++◌, IfOk, OnOk, codes};
+ghost use Rattle.explain_page.specs.Table.{told_text, folded_text, none_text, bound_text, declared_text, verdict_text, verdict, verdict_class, cost_text};
 
 use crate::number::cause_link;
-use crate::page::Bound;
+use crate::page::{Bound, Cost, Declared};
 use explain_html::{Html, Key, Tag};
 use std::alloc::{AllocError, Global};
 
-/// What is told of a function and a meter: the bound, behind its total where that is told; or that there is none, with the way to
-/// the cause.
-pub(crate) fn bound(alloc: Global, bound: &Bound<'_>) -> Result<Html, AllocError>
+/// What is told of a function and a meter: the bound, and what was declared.
+pub(crate) fn cost(alloc: Global, cost: &Cost<'_>) -> Result<Html, AllocError>
+    ensures { IfOk result (λ html. html ≡ cost_text cost.now) }
+{
+    let mut html = bound(alloc, &cost.bound)?;
+    push_declared(alloc, &mut html, cost.declared)?;
+    Ok(html)
+}
+
+// The bound, behind its total where that is told; or that there is none, with the way to the cause.
+fn bound(alloc: Global, bound: &Bound<'_>) -> Result<Html, AllocError>
     ensures { IfOk result (λ html. html ≡ bound_text bound.now) }
 {
     match *bound {
@@ -34,7 +38,7 @@ pub(crate) fn bound(alloc: Global, bound: &Bound<'_>) -> Result<Html, AllocError
 
 // A bound in algebra.
 fn told(alloc: Global, algebra: &str) -> Result<Html, AllocError>
-    ensures { IfOk result (λ html. html ≡ around tag.Span ((key.Class, codes "algebra") ∷ []) (escaped algebra.now)) }
+    ensures { IfOk result (λ html. html ≡ told_text algebra.now) }
 {
     let mut html = Html::new(alloc);
     html.element(Tag::Span, &[(Key::Class, "algebra")], algebra)?;
@@ -70,4 +74,45 @@ fn none(alloc: Global, cause: &str, words: &str) -> Result<Html, AllocError>
     let mut html = Html::new(alloc);
     html.element(Tag::A, &[(Key::Class, "none"), (Key::Href, &link)], words)?;
     Ok(html)
+}
+
+// Appends what was declared, and whether it is kept.
+fn push_declared(
+    alloc: Global,
+    html: &mut Html,
+    declared: Option<Declared<'_>>,
+) -> Result<(), AllocError>
+    ensures { OnOk result (html.new ≡ html.old ++ declared_text declared.entry) }
+{
+    match declared {
+        Some(declared) => push_verdict(alloc, html, &declared),
+        None => Ok(()),
+    }
+}
+
+fn push_verdict(
+    alloc: Global,
+    html: &mut Html,
+    declared: &Declared<'_>,
+) -> Result<(), AllocError>
+    ensures { OnOk result (html.new ≡ html.old ++ verdict_text declared.now) }
+{
+    let words = format!(in alloc; "declared {}: {}", declared.algebra, verdict(declared.is_kept))?;
+    html.element(
+        Tag::Span,
+        &[(Key::Class, verdict_class(declared.is_kept))],
+        &words,
+    )
+}
+
+fn verdict(is_kept: bool) -> &'static str
+    ensures { result.now ≡ verdict is_kept }
+{
+    if is_kept { "kept" } else { "not kept" }
+}
+
+fn verdict_class(is_kept: bool) -> &'static str
+    ensures { result.now ≡ verdict_class is_kept }
+{
+    if is_kept { "declared" } else { "declared lacks" }
 }

@@ -1,10 +1,10 @@
 // The calculator, which the script fills.
 ghost use Rattle.std.specs.Prelude.{◌≡◌, ◌++◌, IfOk, OnOk};
-ghost use Rattle.explain_page.specs.Table.{terms_of, choice_text, choices_text};
+ghost use Rattle.explain_page.specs.Table.{terms_of, price_terms, choice_text, choices_text};
 ghost use Rattle.explain_html.specs.Escaped.{Text};
-ghost use Rattle.explain_page.specs.Page.{Holds};
+ghost use Rattle.explain_page.specs.Parts.{Holds};
 
-use crate::page::{Bound, Function, Page};
+use crate::page::{Bound, Cost, Function, Page};
 use explain_html::{Html, Key, Tag, Void};
 use std::alloc::{AllocError, Global};
 
@@ -60,7 +60,7 @@ fn fields(alloc: Global, page: &Page<'_>) -> Result<Html, AllocError>
 {
     let mut html = Html::new(alloc);
     push_select(alloc, &mut html, page)?;
-    push_results(alloc, &mut html)?;
+    push_results(alloc, &mut html, page.prices.is_some())?;
     Ok(html)
 }
 
@@ -75,18 +75,18 @@ fn push_select(alloc: Global, html: &mut Html, page: &Page<'_>) -> Result<(), Al
 }
 
 // Appends the signature, the sizes, the totals and the limit, which the script fills.
-fn push_results(alloc: Global, html: &mut Html) -> Result<(), AllocError>
+fn push_results(alloc: Global, html: &mut Html, has_prices: bool) -> Result<(), AllocError>
     ensures { OnOk result ((more : Text) × (html.new ≡ html.old ++ more)) }
 {
-    let results = results(alloc)?;
+    let results = results(alloc, has_prices)?;
     html.around(Tag::Div, &[], &results)
 }
 
-fn results(alloc: Global) -> Result<Html, AllocError> {
+fn results(alloc: Global, has_prices: bool) -> Result<Html, AllocError> {
     let mut html = Html::new(alloc);
     push_places(&mut html)?;
-    push_totals(alloc, &mut html)?;
-    push_limit(alloc, &mut html)?;
+    push_totals(alloc, &mut html, has_prices)?;
+    push_limit(alloc, &mut html, has_prices)?;
     Ok(html)
 }
 
@@ -117,29 +117,40 @@ fn push_choice(html: &mut Html, function: &Function<'_>) -> Result<(), AllocErro
         Tag::Choice,
         &[
             (Key::Signature, function.signature),
-            (Key::Ticks, terms(&function.ticks)),
-            (Key::Cells, terms(&function.cells)),
-            (Key::Work, terms(&function.work)),
+            (Key::Ticks, terms(function.ticks.bound)),
+            (Key::Cells, terms(function.cells.bound)),
+            (Key::Work, terms(function.work.bound)),
+            (Key::Price, price_terms(function.price)),
         ],
         function.name,
     )
 }
 
 // The terms of a bound; empty where there is none.
-fn terms<'a>(bound: &Bound<'a>) -> &'a str
-    ensures { result.now ≡ terms_of bound.now }
+fn terms<'a>(bound: Bound<'a>) -> &'a str
+    ensures { result.now ≡ terms_of bound.entry }
 {
-    match *bound {
+    match bound {
         Bound::Told { terms, .. } => terms,
         Bound::Missing { .. } => "",
         Bound::Calls { .. } => "",
     }
 }
 
+// The terms of a price; empty where there is none.
+fn price_terms<'a>(price: Option<Cost<'a>>) -> &'a str
+    ensures { result.now ≡ price_terms price.entry }
+{
+    match price {
+        Some(price) => terms(price.bound),
+        None => "",
+    }
+}
+
 // Appends a total for each meter.
-fn push_totals(alloc: Global, html: &mut Html) -> Result<(), AllocError> {
+fn push_totals(alloc: Global, html: &mut Html, has_prices: bool) -> Result<(), AllocError> {
     let mut totals = Html::new(alloc);
-    push_three(alloc, &mut totals)?;
+    push_each_total(alloc, &mut totals, has_prices)?;
     html.around(
         Tag::Div,
         &[(Key::Class, "results"), (Key::Live, "polite")],
@@ -147,10 +158,14 @@ fn push_totals(alloc: Global, html: &mut Html) -> Result<(), AllocError> {
     )
 }
 
-fn push_three(alloc: Global, html: &mut Html) -> Result<(), AllocError> {
+fn push_each_total(alloc: Global, html: &mut Html, has_prices: bool) -> Result<(), AllocError> {
     push_total(alloc, html, "ticks", "total-ticks")?;
     push_total(alloc, html, "cells", "total-cells")?;
-    push_total(alloc, html, "work", "total-work")
+    push_total(alloc, html, "work", "total-work")?;
+    if has_prices {
+        push_total(alloc, html, "price", "total-price")?;
+    }
+    Ok(())
 }
 
 fn push_total(alloc: Global, html: &mut Html, meter: &str, id: &str) -> Result<(), AllocError> {
@@ -161,9 +176,9 @@ fn push_total(alloc: Global, html: &mut Html, meter: &str, id: &str) -> Result<(
 }
 
 // Appends the limit to solve for.
-fn push_limit(alloc: Global, html: &mut Html) -> Result<(), AllocError> {
+fn push_limit(alloc: Global, html: &mut Html, has_prices: bool) -> Result<(), AllocError> {
     let mut limit = Html::new(alloc);
-    push_limit_parts(alloc, &mut limit)?;
+    push_limit_parts(alloc, &mut limit, has_prices)?;
     html.around(
         Tag::Div,
         &[(Key::Class, "limit"), (Key::Id, "limit")],
@@ -171,9 +186,9 @@ fn push_limit(alloc: Global, html: &mut Html) -> Result<(), AllocError> {
     )
 }
 
-fn push_limit_parts(alloc: Global, html: &mut Html) -> Result<(), AllocError> {
+fn push_limit_parts(alloc: Global, html: &mut Html, has_prices: bool) -> Result<(), AllocError> {
     push_most(html)?;
-    push_meters(alloc, html)?;
+    push_meters(alloc, html, has_prices)?;
     html.element(Tag::Label, &[(Key::For, "solved")], "the greatest")?;
     html.element(Tag::Select, &[(Key::Id, "solved")], "")?;
     html.element(
@@ -196,14 +211,22 @@ fn push_most(html: &mut Html) -> Result<(), AllocError> {
     )
 }
 
-fn push_meters(alloc: Global, html: &mut Html) -> Result<(), AllocError> {
+fn push_meters(alloc: Global, html: &mut Html, has_prices: bool) -> Result<(), AllocError> {
     let mut meters = Html::new(alloc);
-    meters.element(Tag::Choice, &[], "ticks")?;
-    meters.element(Tag::Choice, &[], "cells")?;
-    meters.element(Tag::Choice, &[], "work")?;
+    push_each_meter(&mut meters, has_prices)?;
     html.around(
         Tag::Select,
         &[(Key::Id, "meter"), (Key::Label, "Meter")],
         &meters,
     )
+}
+
+fn push_each_meter(html: &mut Html, has_prices: bool) -> Result<(), AllocError> {
+    html.element(Tag::Choice, &[], "ticks")?;
+    html.element(Tag::Choice, &[], "cells")?;
+    html.element(Tag::Choice, &[], "work")?;
+    if has_prices {
+        html.element(Tag::Choice, &[], "price")?;
+    }
+    Ok(())
 }

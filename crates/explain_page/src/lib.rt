@@ -7,6 +7,7 @@ mod calculator;
 mod cause;
 mod digest;
 mod frame;
+mod line;
 mod number;
 mod page;
 mod promise;
@@ -19,7 +20,10 @@ mod top;
 
 pub use cause::push_cause;
 pub use frame::{Sheets, write_page};
-pub use page::{Block, Bound, Cause, Function, Line, Look, Page, Pair, Panel, Panels, Place, Span};
+pub use page::{
+    Block, Bound, Cause, Cost, Declared, Function, Growth, Line, Look, Page, Pair, Panel, Panels, Picture,
+    Place, Runs, Span,
+};
 pub use runs::push_panels;
 pub use script::SCRIPT;
 pub use source::push_block;

@@ -18,6 +18,8 @@ pub(crate) fn cause_link(alloc: Global, function: &str) -> Result<String, AllocE
 }
 
 /// A number in digits.
-pub(crate) fn digits(alloc: Global, number: u32) -> Result<String, AllocError> {
+pub(crate) fn digits(alloc: Global, number: u32) -> Result<String, AllocError>
+    ensures { IfOk result (λ digits. string_bytes digits ≡ decimal number) }
+{
     format!(in alloc; "{number}")
 }

@@ -13,7 +13,9 @@ pub struct Page<'a> {
     pub functions: &'a [Function<'a>],
     /// The function that the calculator begins with.
     pub first: &'a str,
-    /// Signs that occur in bounds, each with what it means.
+    /// The table of prices, where one is given: what the prices of functions go by.
+    pub prices: Option<&'a str>,
+    /// Signs and words that occur in the table, each with what it means.
     pub notations: &'a [Pair<'a>],
     /// Why bounds are missing, by `push_cause`; nothing where none is.
     pub causes: Option<&'a Html>,
@@ -25,10 +27,22 @@ pub struct Page<'a> {
     pub sums: &'a [Pair<'a>],
     /// The source, by `push_block`.
     pub source: &'a Html,
+    pub runs: Runs<'a>,
+}
+
+/// Measured runs of all functions.
+#[derive(Clone, Copy)]
+pub struct Runs<'a> {
     /// Which runs were measured.
     pub measured: &'a str,
+    /// Whether there are runs on data that was given.
+    pub has_given: bool,
+    /// Whether there are declared bounds.
+    pub has_declared: bool,
+    /// Whether pictures have linear axes, too.
+    pub has_linear: bool,
     /// What runs cost, by `push_panels`.
-    pub runs: &'a Html,
+    pub panels: &'a Html,
 }
 
 /// A function, and what is known of its costs.
@@ -41,12 +55,30 @@ pub struct Function<'a> {
     pub line: u32,
     /// Whether no other function calls it.
     pub is_entry: bool,
-    pub ticks: Bound<'a>,
-    pub cells: Bound<'a>,
-    pub work: Bound<'a>,
+    pub ticks: Cost<'a>,
+    pub cells: Cost<'a>,
+    pub work: Cost<'a>,
+    /// The ticks under the table of prices, where one is given.
+    pub price: Option<Cost<'a>>,
 }
 
 /// What is known of a function and a meter.
+#[derive(Clone, Copy)]
+pub struct Cost<'a> {
+    pub bound: Bound<'a>,
+    /// What was declared of it, where something was.
+    pub declared: Option<Declared<'a>>,
+}
+
+/// A bound that was declared.
+#[derive(Clone, Copy)]
+pub struct Declared<'a> {
+    pub algebra: &'a str,
+    /// Whether the function keeps it.
+    pub is_kept: bool,
+}
+
+/// What is found for a function and a meter.
 #[derive(Clone, Copy)]
 pub enum Bound<'a> {
     /// A bound: in algebra; its total at typical sizes, where it has many terms; and its terms in JSON, an array with
@@ -112,8 +144,22 @@ pub struct Line<'a> {
     pub spans: &'a [Span<'a>],
     /// How often it is run at most; empty where nothing is said.
     pub times: &'a str,
+    /// How that grows.
+    pub growth: Growth,
     /// The function that has no bound for what stands in this line.
     pub hit: Option<&'a str>,
+}
+
+/// How the number of times grows that a line is run.
+#[derive(Clone, Copy)]
+pub enum Growth {
+    /// Nothing is said, or there is no bound.
+    Unsaid,
+    Constant,
+    Linear,
+    Quadratic,
+    Cubic,
+    Quartic,
 }
 
 /// A part of a line.
@@ -147,9 +193,21 @@ pub struct Panels<'a> {
 pub struct Panel<'a> {
     /// What was measured.
     pub title: &'a str,
-    pub bound: Bound<'a>,
-    /// Points below a curve, as SVG, where something is drawn.
-    pub picture: Option<&'a Html>,
+    pub cost: Cost<'a>,
+    /// Points below a curve, where something is drawn.
+    pub picture: Option<Picture<'a>>,
     /// What the picture shows last, or what is said in its place.
     pub said: &'a str,
+}
+
+/// Points below a curve, as SVG.
+#[derive(Clone, Copy)]
+pub enum Picture<'a> {
+    /// On logarithmic axes alone.
+    Logarithmic(&'a Html),
+    /// On logarithmic axes, and on linear ones, which the reader turns to.
+    Both {
+        logarithmic: &'a Html,
+        linear: &'a Html,
+    },
 }

@@ -109,7 +109,7 @@ pub const SCRIPT: &str = "
   const calculator = byId('calculator');
   if (!calculator) { return; }
   const pick = byId('pick'), fields = byId('fields'), most = byId('most'), meter = byId('meter'), solved = byId('solved');
-  const meters = ['ticks', 'cells', 'work'];
+  const meters = ['ticks', 'cells', 'work', 'price'];
   const kept = {};
   let shown = null;
 
@@ -164,6 +164,7 @@ pub const SCRIPT: &str = "
     const sizes = sizesBut(null);
     meters.forEach(function (one) {
       const output = byId('total-' + one), bound = shown.bounds[one];
+      if (!output) { return; }
       if (!bound) { output.className = 'none'; output.textContent = 'no bound'; return; }
       if (sizes === null) { output.className = ''; output.textContent = '–'; return; }
       const digits = bound(sizes).toString();

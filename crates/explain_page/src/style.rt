@@ -30,8 +30,8 @@ header .about{color:var(--soft);font-size:13px;margin:2px 0 14px}
 nav{display:flex;flex-wrap:wrap;gap:4px 18px;font-size:13px;color:var(--soft);border-top:1px solid var(--line);
 border-bottom:1px solid var(--line);padding:7px 0;margin-top:16px}
 .algebra{font:13px/1.5 var(--mono);color:var(--bound)}
-.term{white-space:nowrap}
-.zero{color:var(--soft)}
+.declared{display:block;font-size:12.5px;color:var(--soft);overflow-wrap:anywhere}
+.declared.lacks{color:var(--none);font-weight:600}
 .none{color:var(--none);font:600 13px/1.5 var(--sans)}
 .none::before{content:'';display:inline-block;width:8px;height:8px;border:2px solid currentColor;border-radius:50%;margin-right:6px}
 details{font-size:13px}
@@ -71,7 +71,7 @@ padding:4px 8px;width:100%;min-width:0}
 select{width:auto;max-width:100%}
 input[type=range]{padding:0;border:0;accent-color:var(--bound);background:none;height:24px}
 input[aria-invalid=true]{border-color:var(--none);color:var(--none)}
-.results{display:grid;grid-template-columns:repeat(3,minmax(0,1fr));gap:12px 28px;border-top:1px solid var(--line);padding-top:12px}
+.results{display:grid;grid-template-columns:repeat(auto-fit,minmax(170px,1fr));gap:12px 28px;border-top:1px solid var(--line);padding-top:12px}
 .results span{font-size:13px;color:var(--soft)}
 .results output,.limit output{font:600 20px/1.35 var(--sans);color:var(--bound);overflow-wrap:anywhere}
 .results output.huge,.limit output.huge{font-size:14px}
@@ -86,7 +86,15 @@ font-size:13px;color:var(--soft)}
 .line>a{color:var(--soft);text-decoration:none;text-align:right;padding-right:14px;user-select:none}
 .line>.indent{white-space:pre}
 .line>.code{white-space:pre-wrap;overflow-wrap:anywhere;padding-left:2ch;text-indent:-2ch}
-.line>.times{color:var(--soft);font-size:11px;padding-left:12px;user-select:none}
+.line>.times{color:var(--soft);font-size:11px;line-height:1.77;padding-left:12px;text-align:right;user-select:none;display:grid;
+grid-template-columns:auto 40px;gap:8px;align-items:center}
+.line>.times:empty{padding:0}
+.times::after{content:'';height:5px;border-radius:2px;background:var(--soft);opacity:.45;width:0}
+.times.constant::after{width:3px}
+.times.linear::after{width:10px}
+.times.quadratic::after{width:20px}
+.times.cubic::after{width:30px}
+.times.quartic::after{width:40px}
 .line:target,.line.hit{background:var(--nonebg)}
 .line:target>a{color:var(--ink)}
 .quiet{color:var(--soft)}
@@ -99,6 +107,11 @@ grid-template-columns:3.2em minmax(0,1fr);gap:0 6px;align-content:start;position
 .margin.lacks{border-left-color:var(--none)}
 .keys{display:flex;flex-wrap:wrap;gap:6px 22px;align-items:center;font-size:13px;color:var(--soft);margin-bottom:6px}
 .keys svg{display:inline-block;width:26px;height:12px;margin:0 6px 0 0}
+#measured>input,#measured>label,#axes{display:inline-block;width:auto;margin:0 6px 0 0;font-size:13px;vertical-align:middle}
+#measured>label{margin-right:16px;color:var(--soft);cursor:pointer}
+#measured>input{accent-color:var(--ink)}
+#measured>input:checked+label{color:var(--ink);font-weight:600}
+#linear:checked~.runs .logarithmic,#logarithmic:checked~.runs .linear{display:none}
 article{padding:16px 0 18px;border-top:1px solid var(--line)}
 article header{display:flex;flex-wrap:wrap;gap:0 14px;align-items:baseline}
 .signature{font:13px/1.5 var(--mono);color:var(--soft);overflow-wrap:anywhere}
@@ -112,6 +125,7 @@ svg text{font:11px var(--sans);fill:var(--soft)}
 .grid{stroke:var(--line);fill:none}
 .axis{stroke:var(--soft);fill:none}
 .curve{stroke:var(--bound);stroke-width:2;fill:none;stroke-linejoin:round}
+.stated{stroke:var(--soft);stroke-width:1.5;stroke-dasharray:5 3;fill:none}
 .area{fill:var(--tint)}
 .point{fill:var(--ink);stroke:var(--page);stroke-width:1.5}
 .own{fill:var(--page);stroke:var(--ink);stroke-width:1.5}

@@ -1,12 +1,12 @@
 // The table of bounds.
 ghost use Rattle.std.specs.Prelude.{◌≡◌, ◌++◌, IfOk, OnOk, codes};
-ghost use Rattle.explain_page.specs.Table.{linked_name, name_text, entry_text, cell_text, row_text, rows_text};
+ghost use Rattle.explain_page.specs.Table.{linked_name, name_text, entry_text, cell_text, cells_text, price_text, row_text, rows_text};
 ghost use Rattle.explain_html.specs.Escaped.{Text};
-ghost use Rattle.explain_page.specs.Page.{Holds};
+ghost use Rattle.explain_page.specs.Parts.{Holds};
 
-use crate::bound::bound;
+use crate::bound::cost;
 use crate::number::line_link;
-use crate::page::{Bound, Function, Page, Pair};
+use crate::page::{Cost, Function, Page, Pair};
 use explain_html::{Html, Key, Tag};
 use std::alloc::{AllocError, Global};
 
@@ -22,15 +22,15 @@ fn section(alloc: Global, page: &Page<'_>) -> Result<Html, AllocError>
     ensures { IfOk result (λ html. Holds (rows_text page.now.functions.now) html) }
 {
     let mut html = Html::new(alloc);
-    push_grid(alloc, &mut html, page.functions)?;
+    push_grid(alloc, &mut html, page)?;
     push_legend(alloc, &mut html, page.notations)?;
     Ok(html)
 }
 
-fn push_grid(alloc: Global, html: &mut Html, functions: &[Function<'_>]) -> Result<(), AllocError>
-    ensures { OnOk result (Holds (rows_text functions.now) html.new) }
+fn push_grid(alloc: Global, html: &mut Html, page: &Page<'_>) -> Result<(), AllocError>
+    ensures { OnOk result (Holds (rows_text page.now.functions.now) html.new) }
 {
-    let grid = grid(alloc, functions)?;
+    let grid = grid(alloc, page)?;
     html.around(
         Tag::Table,
         &[(Key::Class, "bounds"), (Key::Role, "table")],
@@ -39,17 +39,17 @@ fn push_grid(alloc: Global, html: &mut Html, functions: &[Function<'_>]) -> Resu
 }
 
 // The caption, the head and the rows.
-fn grid(alloc: Global, functions: &[Function<'_>]) -> Result<Html, AllocError>
-    ensures { IfOk result (λ html. Holds (rows_text functions.now) html) }
+fn grid(alloc: Global, page: &Page<'_>) -> Result<Html, AllocError>
+    ensures { IfOk result (λ html. Holds (rows_text page.now.functions.now) html) }
 {
     let mut html = Html::new(alloc);
-    push_head(alloc, &mut html)?;
-    push_body(alloc, &mut html, functions)?;
+    push_head(alloc, &mut html, page.prices)?;
+    push_body(alloc, &mut html, page.functions)?;
     Ok(html)
 }
 
-fn push_head(alloc: Global, html: &mut Html) -> Result<(), AllocError> {
-    let row = head_row(alloc)?;
+fn push_head(alloc: Global, html: &mut Html, prices: Option<&str>) -> Result<(), AllocError> {
+    let row = head_row(alloc, prices)?;
     html.element(
         Tag::Caption,
         &[],
@@ -58,28 +58,32 @@ fn push_head(alloc: Global, html: &mut Html) -> Result<(), AllocError> {
     html.around(Tag::Thead, &[(Key::Role, "rowgroup")], &row)
 }
 
-fn head_row(alloc: Global) -> Result<Html, AllocError> {
+fn head_row(alloc: Global, prices: Option<&str>) -> Result<Html, AllocError> {
     let mut names = Html::new(alloc);
-    push_names(&mut names)?;
+    push_names(alloc, &mut names, prices)?;
     let mut row = Html::new(alloc);
     row.around(Tag::Tr, &[(Key::Role, "row")], &names)?;
     Ok(row)
 }
 
-fn push_names(html: &mut Html) -> Result<(), AllocError> {
-    for name in [
-        "function",
-        "ticks, at most",
-        "cells, at most",
-        "work, at most",
-    ] {
-        html.element(
-            Tag::Th,
-            &[(Key::Role, "columnheader"), (Key::Scope, "col")],
-            name,
-        )?;
+fn push_names(alloc: Global, html: &mut Html, prices: Option<&str>) -> Result<(), AllocError> {
+    push_column(html, "function")?;
+    push_column(html, "ticks, at most")?;
+    push_column(html, "cells, at most")?;
+    push_column(html, "work, at most")?;
+    if let Some(table) = prices {
+        let name = format!(in alloc; "price by {table}, at most")?;
+        push_column(html, &name)?;
     }
     Ok(())
+}
+
+fn push_column(html: &mut Html, name: &str) -> Result<(), AllocError> {
+    html.element(
+        Tag::Th,
+        &[(Key::Role, "columnheader"), (Key::Scope, "col")],
+        name,
+    )
 }
 
 fn push_body(alloc: Global, html: &mut Html, functions: &[Function<'_>]) -> Result<(), AllocError>
@@ -103,20 +107,30 @@ fn push_rows(alloc: Global, html: &mut Html, functions: &[Function<'_>]) -> Resu
 fn push_row(alloc: Global, html: &mut Html, function: &Function<'_>) -> Result<(), AllocError>
     ensures { OnOk result (html.new ≡ html.old ++ row_text function.now) }
 {
-    let mut cells = Html::new(alloc);
-    push_cells(alloc, &mut cells, function)?;
-    html.around(Tag::Tr, &[(Key::Role, "row")], &cells)
+    let mut parts = Html::new(alloc);
+    push_name(alloc, &mut parts, function)?;
+    push_cells(alloc, &mut parts, function)?;
+    html.around(Tag::Tr, &[(Key::Role, "row")], &parts)
 }
 
 // Appends the cells of a function's row.
 fn push_cells(alloc: Global, html: &mut Html, function: &Function<'_>) -> Result<(), AllocError>
-    ensures { OnOk result (html.new ≡ (((html.old ++ name_text function.now) ++ cell_text (codes "ticks") function.now.ticks)
-        ++ cell_text (codes "cells") function.now.cells) ++ cell_text (codes "work") function.now.work) }
+    ensures { OnOk result (html.new ≡ html.old ++ cells_text function.now) }
 {
-    push_name(alloc, html, function)?;
     push_cell(alloc, html, "ticks", &function.ticks)?;
     push_cell(alloc, html, "cells", &function.cells)?;
-    push_cell(alloc, html, "work", &function.work)
+    push_cell(alloc, html, "work", &function.work)?;
+    push_price(alloc, html, function.price)
+}
+
+// Appends the cell of the price, where there is one.
+fn push_price(alloc: Global, html: &mut Html, price: Option<Cost<'_>>) -> Result<(), AllocError>
+    ensures { OnOk result (html.new ≡ html.old ++ price_text price.entry) }
+{
+    match price {
+        Some(price) => push_cell(alloc, html, "price", &price),
+        None => Ok(()),
+    }
 }
 
 // Appends the name of a function, and whether it is an entry.
@@ -164,11 +178,11 @@ fn push_cell(
     alloc: Global,
     html: &mut Html,
     meter: &str,
-    told: &Bound<'_>,
+    told: &Cost<'_>,
 ) -> Result<(), AllocError>
     ensures { OnOk result (html.new ≡ html.old ++ cell_text meter.now told.now) }
 {
-    let content = bound(alloc, told)?;
+    let content = cost(alloc, told)?;
     html.around(
         Tag::Td,
         &[(Key::Role, "cell"), (Key::Meter, meter)],

@@ -1,15 +1,10 @@
 -- What a panel draws.
-use Rattle.std.specs.Prelude.{◌≡◌, ℕ, Bool, true, false, List, [], ◌∷◌, ◌++◌, codes, decimal}
+use Rattle.std.specs.Prelude.{◌≡◌, ℕ, List, [], ◌∷◌, ◌++◌, codes, decimal}
 use Rattle.explain_html.specs.Escaped.{Text, escaped}
 use Rattle.explain_html.specs.Html.{around}
 use Rattle.explain_html.specs.declared.tag.Tag.TheVariants as tag
 use Rattle.explain_html.specs.declared.key.Key.TheVariants as key
 use Rattle.explain_chart.specs.Chart.{Mark, title_of}
-
--- points of arguments that were given look otherwise than those of made ones
-abbrev pub class_of : Bool → Text
-class_of true = codes "own"
-class_of false = codes "point"
 
 -- a circle that holds its title
 abbrev pub circle_text : Text → Text → Text → Text → Text
@@ -28,10 +23,13 @@ abbrev pub ArePoints : Text → List Mark → Text → Type 0
 ArePoints class [] text = text ≡ []
 ArePoints class (m ∷ ms) text = (point : Text) × (rest : Text) × IsPoint class m point × ArePoints class ms rest × (text ≡ point ++ rest)
 
--- the points of the runs, and no others, stand between two parts of the picture
-pub record Draws (class : Text) (ms : List Mark) (text : Text) : Type 0 where
+-- the points of runs on made arguments stand in the picture, and behind them those of runs on arguments that were given, which look
+-- otherwise; and no others
+pub record Draws (made given : List Mark) (text : Text) : Type 0 where
   pub front : Text
   pub points : Text
+  pub own : Text
   pub back : Text
-  pub are : ArePoints class ms points
-  pub is : text ≡ front ++ (points ++ back)
+  pub are_made : ArePoints (codes "point") made points
+  pub are_given : ArePoints (codes "own") given own
+  pub is : text ≡ front ++ (points ++ (own ++ back))

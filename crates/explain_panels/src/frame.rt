@@ -1,5 +1,7 @@
 // Where things stand in a panel, in pixels.
-use explain_chart::{Axis, Mark, costs_of, sizes_of};
+use crate::panel::{Axes, Panel};
+use crate::steps::Steps;
+use explain_chart::{Axis, Extent, Knot, Mark};
 
 /// The sides of the region in which points stand, and its bottom.
 pub(crate) const LEFT: u32 = 56;
@@ -19,19 +21,46 @@ const GAP_ACROSS: u32 = 24;
 
 const GAP_UP: u32 = 16;
 
+/// One axis.
+#[derive(Clone, Copy)]
+pub(crate) enum Scale {
+    Logarithmic(Axis),
+    Linear(Steps),
+}
+
+impl Scale {
+    /// How far from its start a number lies.
+    fn at(self, number: u128) -> u32 {
+        match self {
+            Scale::Logarithmic(axis) => axis.at(number),
+            Scale::Linear(steps) => steps.at(number),
+        }
+    }
+}
+
 /// Where sizes and costs stand.
 #[derive(Clone, Copy)]
 pub(crate) struct Frame {
-    sizes: Axis,
-    pub(crate) costs: Axis,
+    sizes: Scale,
+    pub(crate) costs: Scale,
 }
 
 impl Frame {
-    /// For these runs.
-    pub(crate) fn of(marks: &[Mark<'_>]) -> Frame {
-        Frame {
-            sizes: Axis::exact(sizes_of(marks), GAP_ACROSS, RIGHT - LEFT - 2 * INSET),
-            costs: Axis::by_powers(costs_of(marks), GAP_UP, UP),
+    /// For these runs and bounds.
+    pub(crate) fn of(panel: &Panel<'_>) -> Frame {
+        let sizes = with_sizes(with_sizes(Extent::none(), panel.made), panel.given);
+        let costs = with_costs(with_costs(Extent::none(), panel.made), panel.given);
+        let costs = with_bounds(costs, panel.declared);
+        let across = RIGHT - LEFT - 2 * INSET;
+        match panel.axes {
+            Axes::Logarithmic => Frame {
+                sizes: Scale::Logarithmic(Axis::exact(sizes, GAP_ACROSS, across)),
+                costs: Scale::Logarithmic(Axis::by_powers(costs, GAP_UP, UP)),
+            },
+            Axes::Linear => Frame {
+                sizes: Scale::Linear(Steps::exact(sizes.most(), across)),
+                costs: Scale::Linear(Steps::round(costs.most(), UP)),
+            },
         }
     }
 
@@ -44,4 +73,28 @@ impl Frame {
     pub(crate) fn y(self, cost: u128) -> u32 {
         BOTTOM.saturating_sub(self.costs.at(cost))
     }
+}
+
+fn with_sizes(extent: Extent, marks: &[Mark<'_>]) -> Extent {
+    let mut extent = extent;
+    for mark in marks {
+        extent = extent.with(u128::from(mark.size));
+    }
+    extent
+}
+
+fn with_costs(extent: Extent, marks: &[Mark<'_>]) -> Extent {
+    let mut extent = extent;
+    for mark in marks {
+        extent = extent.with_costs(mark);
+    }
+    extent
+}
+
+fn with_bounds(extent: Extent, knots: &[Knot]) -> Extent {
+    let mut extent = extent;
+    for knot in knots {
+        extent = extent.with(knot.bound);
+    }
+    extent
 }

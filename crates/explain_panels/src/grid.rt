@@ -1,6 +1,7 @@
 // The lines of round costs, and the marks of sizes.
 use crate::curve::push_path;
-use crate::frame::{BOTTOM, Frame, LEFT, RIGHT};
+use crate::frame::{BOTTOM, Frame, LEFT, RIGHT, Scale};
+use crate::steps::Steps;
 use explain_chart::{Axis, Mark, push_round};
 use explain_html::{Html, Key, Tag};
 use std::alloc::{AllocError, Global};
@@ -11,9 +12,37 @@ const MOST_POWERS: u32 = 5;
 /// How far apart the numbers of sizes stand at least.
 const APART: u32 = 36;
 
-/// Appends a line for zero, where a cost is, and for some powers of 10.
+/// Appends the lines of some round costs.
 pub(crate) fn push_costs(alloc: Global, html: &mut Html, frame: Frame) -> Result<(), AllocError> {
-    let axis = frame.costs;
+    match frame.costs {
+        Scale::Logarithmic(axis) => push_powers(alloc, html, frame, axis),
+        Scale::Linear(steps) => push_steps(alloc, html, frame, steps),
+    }
+}
+
+// Appends a line for zero and for each step.
+fn push_steps(
+    alloc: Global,
+    html: &mut Html,
+    frame: Frame,
+    steps: Steps,
+) -> Result<(), AllocError> {
+    for place in 0..6u32 {
+        let cost = steps.step.saturating_mul(u128::from(place));
+        if cost <= steps.most {
+            push_cost(alloc, html, frame, cost)?;
+        }
+    }
+    Ok(())
+}
+
+// Appends a line for zero, where a cost is, and for some powers of 10.
+fn push_powers(
+    alloc: Global,
+    html: &mut Html,
+    frame: Frame,
+    axis: Axis,
+) -> Result<(), AllocError> {
     if axis.zero {
         push_cost(alloc, html, frame, 0)?;
     }

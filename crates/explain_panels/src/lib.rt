@@ -6,5 +6,6 @@ mod frame;
 mod grid;
 mod panel;
 mod point;
+mod steps;
 
-pub use panel::{Panel, draw_panel};
+pub use panel::{Axes, Panel, draw_panel};

@@ -14,4 +14,4 @@ returns c =
     let html = subst IsHtml (sym c.deref-4.ensures) c.text-body.ensures.html in
     let shows = c.in_ok-body.ensures in
     shown string_bytes c.framed.result c.args.page.now sheets.style.now sheets.script.now _ _ _ c.deref-4.result.now
-    allows names (c.deref-4.ensures ∙ c.text-body.ensures.text) html shows.table shows.choices c.framed.ensures
+    allows names (c.deref-4.ensures ∙ c.text-body.ensures.text) html shows c.framed.ensures

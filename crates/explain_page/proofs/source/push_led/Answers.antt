@@ -1,0 +1,8 @@
+use Rattle.std.proofs.Common.{[], ◌∷◌, codes}
+use Rattle.explain_html.specs.declared.tag.Tag.TheVariants as tag
+use Rattle.explain_html.specs.declared.key.Key.TheVariants as key
+use Rattle.explain_page.proofs.Holding.{held_around, holds_whole}
+use Rattle.explain_page.proofs.source.push_led.Goals as goal
+
+pub returns : goal.returns
+returns c = held_around c.around.result _ _ _ tag.Div ((key.Class, codes "source") ∷ []) (holds_whole c.args.page.now.source.now) c.around.ensures
