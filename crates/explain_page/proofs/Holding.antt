@@ -46,29 +46,29 @@ holds_more {part = part} {old = old} h more = holds_same (holds_first part old m
 
 -- ---- behind a call that may fail
 
-pub held_around : {A E : Type 0} (r : Result A E) (part old content : Text) {new : Text} (t : Tag) (attributes : List Attribute) →
+pub held_around : {A E : Type 0} (r : Result A E) (part old content new : Text) (t : Tag) (attributes : List Attribute) →
     Holds part content → OnOk r (new ≡ old ++ around t attributes content) → OnOk r (Holds part new)
-held_around (Ok a) part old content t attributes h is = holds_same (holds_around part old content t attributes h) is
-held_around (Err e) part old content t attributes h is = tt
+held_around (Ok a) part old content new t attributes h is = holds_same (holds_around part old content t attributes h) is
+held_around (Err e) part old content new t attributes h is = tt
 
-pub held_more : {A E : Type 0} (r : Result A E) {part old new : Text} → Holds part old → OnOk r ((more : Text) × (new ≡ old ++ more)) → OnOk r (Holds part new)
-held_more (Ok a) h more = holds_more h more
-held_more (Err e) h more = tt
+pub held_more : {A E : Type 0} (r : Result A E) {part old : Text} (new : Text) → Holds part old → OnOk r ((more : Text) × (new ≡ old ++ more)) → OnOk r (Holds part new)
+held_more (Ok a) new h more = holds_more h more
+held_more (Err e) new h more = tt
 
-pub held_behind : {A E : Type 0} (r : Result A E) {part old new : Text} (more : Text) → Holds part old → OnOk r (new ≡ old ++ more) → OnOk r (Holds part new)
-held_behind (Ok a) more h is = holds_more h (more, is)
-held_behind (Err e) more h is = tt
+pub held_behind : {A E : Type 0} (r : Result A E) {part old : Text} (new more : Text) → Holds part old → OnOk r (new ≡ old ++ more) → OnOk r (Holds part new)
+held_behind (Ok a) new more h is = holds_more h (more, is)
+held_behind (Err e) new more h is = tt
 
 -- something that holds this is appended, alone or in an element
-pub added : {A E : Type 0} (r : Result A E) (part old : Text) {new : Text} → OnOk r (new ≡ old ++ part) → OnOk r (Adds part old new)
-added (Ok a) part old is = record { more = part; holds = holds_last part [] refl; is = is }
-added (Err e) part old is = tt
+pub added : {A E : Type 0} (r : Result A E) (part old new : Text) → OnOk r (new ≡ old ++ part) → OnOk r (Adds part old new)
+added (Ok a) part old new is = record { more = part; holds = holds_last part [] refl; is = is }
+added (Err e) part old new is = tt
 
-pub added_around : {A E : Type 0} (r : Result A E) (part old content : Text) {new : Text} (t : Tag) (attributes : List Attribute) →
+pub added_around : {A E : Type 0} (r : Result A E) (part old content new : Text) (t : Tag) (attributes : List Attribute) →
     Holds part content → OnOk r (new ≡ old ++ around t attributes content) → OnOk r (Adds part old new)
-added_around (Ok a) part old content t attributes h is =
+added_around (Ok a) part old content new t attributes h is =
     record { more = around t attributes content; holds = holds_around part [] content t attributes h; is = is }
-added_around (Err e) part old content t attributes h is = tt
+added_around (Err e) part old content new t attributes h is = tt
 
 -- ---- all that is told
 
@@ -88,26 +88,26 @@ pub told_in : {p : Page} (old content : Text) {new : Text} (t : Tag) (attributes
     Tells p content → new ≡ old ++ around t attributes content → Tells p new
 told_in old content t attributes h is = tells_kept (λ part held. holds_same (holds_around part old content t attributes held) is) h
 
-pub tells_around : {A E : Type 0} (r : Result A E) {p : Page} (old content : Text) {new : Text} (t : Tag) (attributes : List Attribute) →
+pub tells_around : {A E : Type 0} (r : Result A E) {p : Page} (old content new : Text) (t : Tag) (attributes : List Attribute) →
     Tells p content → OnOk r (new ≡ old ++ around t attributes content) → OnOk r (Tells p new)
-tells_around (Ok a) old content t attributes h is = told_in old content t attributes h is
-tells_around (Err e) old content t attributes h is = tt
+tells_around (Ok a) old content new t attributes h is = told_in old content t attributes h is
+tells_around (Err e) old content new t attributes h is = tt
 
-pub tells_more : {A E : Type 0} (r : Result A E) {p : Page} {old new : Text} (more : Text) → Tells p old → OnOk r (new ≡ old ++ more) → OnOk r (Tells p new)
-tells_more (Ok a) more h is = tells_kept (λ part held. holds_more held (more, is)) h
-tells_more (Err e) more h is = tt
+pub tells_more : {A E : Type 0} (r : Result A E) {p : Page} {old : Text} (new more : Text) → Tells p old → OnOk r (new ≡ old ++ more) → OnOk r (Tells p new)
+tells_more (Ok a) new more h is = tells_kept (λ part held. holds_more held (more, is)) h
+tells_more (Err e) new more h is = tt
 
 -- the table, the calculator and the source, before the runs
-pub told : {A E : Type 0} (r : Result A E) {p : Page} {old new : Text} →
+pub told : {A E : Type 0} (r : Result A E) (p : Page) {old : Text} (new : Text) →
     Holds (rows_text p.functions.now) old → Holds (choices_text p.functions.now) old → Holds p.source.now old →
     OnOk r (Holds p.runs.panels.now new) → OnOk r ((more : Text) × (new ≡ old ++ more)) → OnOk r (Tells p new)
-told (Ok a) table choices source runs more = record {
+told (Ok a) p new table choices source runs more = record {
   table = holds_more table more;
   choices = holds_more choices more;
   source = holds_more source more;
   runs = runs;
 }
-told (Err e) table choices source runs more = tt
+told (Err e) p new table choices source runs more = tt
 
 -- a page with a body that tells all
 pub shown : {T E : Type 0} (bytes : T → Text) (r : Result T E) (p : Page) (style script policy title content body : Text) →

@@ -68,8 +68,15 @@ entry_text false = []
 abbrev pub linked_name : Function → Text
 linked_name f = around tag.A ((key.Href, codes "#L" ++ decimal f.line) ∷ []) (escaped f.name.now)
 
+-- what the letters in its bounds mean
+abbrev pub letters_text : Text → Text
+letters_text letters = around tag.Span ((key.Class, codes "letters") ∷ []) (escaped letters)
+
+abbrev pub heading_text : Function → Text
+heading_text f = linked_name f ++ (entry_text f.is_entry ++ letters_text f.letters.now)
+
 abbrev pub name_text : Function → Text
-name_text f = around tag.Th ((key.Role, codes "rowheader") ∷ (key.Scope, codes "row") ∷ []) (linked_name f ++ entry_text f.is_entry)
+name_text f = around tag.Th ((key.Role, codes "rowheader") ∷ (key.Scope, codes "row") ∷ []) (heading_text f)
 
 -- the row of a function: its name, and what is told of its ticks, cells and work, and of its price
 abbrev pub cells_text : Function → Text

@@ -1,6 +1,6 @@
 // What a page may load and run.
 ghost use Rattle.std.specs.Prelude.{◌≡◌, IfOk, string_bytes};
-ghost use Rattle.explain_page.specs.Policy.{digest_text, policy_text};
+ghost use Rattle.explain_page.specs.Policy.{allowing, digest_text, policy_text};
 
 use base64::engine::general_purpose::STANDARD;
 use sha2::{Digest, Sha256};
@@ -12,6 +12,13 @@ pub(crate) fn policy(alloc: Global, style: &str, script: &str) -> Result<String,
 {
     let style = digest(alloc, style)?;
     let script = digest(alloc, script)?;
+    allowing(alloc, &style, &script)
+}
+
+// The policy that allows what has these digests.
+fn allowing(alloc: Global, style: &str, script: &str) -> Result<String, AllocError>
+    ensures { IfOk result (λ text. string_bytes text ≡ allowing style.now script.now) }
+{
     format!(in alloc;
         "default-src 'none'; style-src '{style}'; script-src '{script}'; base-uri 'none'; form-action 'none'"
     )

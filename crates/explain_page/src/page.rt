@@ -51,6 +51,8 @@ pub struct Function<'a> {
     pub name: &'a str,
     /// Its parameters and its result, such as `(l : int list) : int`.
     pub signature: &'a str,
+    /// What the letters in its bounds mean, such as `n = |l|`; empty where there are none.
+    pub letters: &'a str,
     /// The line in which it begins.
     pub line: u32,
     /// Whether no other function calls it.

@@ -165,6 +165,7 @@ fn push_name(alloc: Global, html: &mut Html, function: &Function<'_>) -> Result<
 // Appends the signature, and the way to the calculator.
 fn push_signature(html: &mut Html, function: &Function<'_>) -> Result<(), AllocError> {
     html.element(Tag::Span, &[(Key::Class, "signature")], function.signature)?;
+    html.element(Tag::Span, &[(Key::Class, "letters")], function.letters)?;
     html.element(
         Tag::A,
         &[

@@ -121,7 +121,8 @@ fn push_costs(alloc: Global, html: &mut Html, function: &Function<'_>) -> Result
     if let Some(price) = function.price {
         push_cost(alloc, html, "price", &price)?;
     }
-    Ok(())
+    html.element(Tag::Dt, &[], "")?;
+    html.element(Tag::Dd, &[(Key::Class, "letters")], function.letters)
 }
 
 fn push_cost(

@@ -30,6 +30,9 @@ header .about{color:var(--soft);font-size:13px;margin:2px 0 14px}
 nav{display:flex;flex-wrap:wrap;gap:4px 18px;font-size:13px;color:var(--soft);border-top:1px solid var(--line);
 border-bottom:1px solid var(--line);padding:7px 0;margin-top:16px}
 .algebra{font:13px/1.5 var(--mono);color:var(--bound)}
+.letters{font:12.5px/1.5 var(--mono);color:var(--soft)}
+.letters:empty{display:none}
+th .letters{display:block;white-space:normal;overflow-wrap:anywhere}
 .declared{display:block;font-size:12.5px;color:var(--soft);overflow-wrap:anywhere}
 .declared.lacks{color:var(--none);font-weight:600}
 .none{color:var(--none);font:600 13px/1.5 var(--sans)}
@@ -87,7 +90,7 @@ font-size:13px;color:var(--soft)}
 .line>.indent{white-space:pre}
 .line>.code{white-space:pre-wrap;overflow-wrap:anywhere;padding-left:2ch;text-indent:-2ch}
 .line>.times{color:var(--soft);font-size:11px;line-height:1.77;padding-left:12px;text-align:right;user-select:none;display:grid;
-grid-template-columns:auto 40px;gap:8px;align-items:center}
+grid-template-columns:auto 40px;gap:8px;align-items:center;align-content:start}
 .line>.times:empty{padding:0}
 .times::after{content:'';height:5px;border-radius:2px;background:var(--soft);opacity:.45;width:0}
 .times.constant::after{width:3px}
@@ -95,6 +98,7 @@ grid-template-columns:auto 40px;gap:8px;align-items:center}
 .times.quadratic::after{width:20px}
 .times.cubic::after{width:30px}
 .times.quartic::after{width:40px}
+.line .none{margin-left:12px;font-size:12.5px}
 .line:target,.line.hit{background:var(--nonebg)}
 .line:target>a{color:var(--ink)}
 .quiet{color:var(--soft)}
@@ -103,11 +107,14 @@ grid-template-columns:auto 40px;gap:8px;align-items:center}
 .margin{font-size:13px;border-left:2px solid var(--line);padding:0 0 2px 12px;margin:0 0 6px;display:grid;
 grid-template-columns:3.2em minmax(0,1fr);gap:0 6px;align-content:start;position:sticky;top:8px;align-self:start}
 .margin dt{color:var(--soft)}
+.margin dt.mono{grid-column:1/3;color:var(--ink);font-weight:600}
+.margin dt.mono+dd{display:none}
 .margin .algebra{font-size:12.5px}
 .margin.lacks{border-left-color:var(--none)}
 .keys{display:flex;flex-wrap:wrap;gap:6px 22px;align-items:center;font-size:13px;color:var(--soft);margin-bottom:6px}
 .keys svg{display:inline-block;width:26px;height:12px;margin:0 6px 0 0}
 #measured>input,#measured>label,#axes{display:inline-block;width:auto;margin:0 6px 0 0;font-size:13px;vertical-align:middle}
+.runs{margin-top:10px}
 #measured>label{margin-right:16px;color:var(--soft);cursor:pointer}
 #measured>input{accent-color:var(--ink)}
 #measured>input:checked+label{color:var(--ink);font-weight:600}
@@ -119,6 +126,7 @@ article header{display:flex;flex-wrap:wrap;gap:0 14px;align-items:baseline}
 .panel{display:grid;grid-template-rows:subgrid;grid-row:span 4;align-content:start}
 .panel h4{font:600 13px/1.5 var(--sans);margin:0}
 .panel p{margin:2px 0 0}
+.drawn:empty{display:none}
 [hidden]{display:none!important}
 svg{display:block;width:100%;height:auto;margin-top:6px;overflow:visible}
 svg text{font:11px var(--sans);fill:var(--soft)}
@@ -139,20 +147,25 @@ footer{margin-top:44px;border-top:1px solid var(--line);padding-top:10px;font-si
 @media(max-width:680px){
 .page{padding:18px 16px 48px}
 section{margin-top:36px}
-.two,.panels,.block{grid-template-columns:minmax(0,1fr)}
+.two,.block{grid-template-columns:minmax(0,1fr)}
 .verdict{font-size:17px}
 .bounds,.bounds tbody,.bounds tr,.bounds th,.bounds td{display:block;border:0;padding:0}
 .bounds caption{display:block}
 .bounds thead{position:absolute;left:-999px}
 .bounds tr{border-bottom:1px solid var(--line);padding:8px 0}
-.bounds td{display:grid;grid-template-columns:3.6em minmax(0,1fr);gap:8px}
+.bounds td{display:grid;grid-template-columns:3.6em minmax(0,1fr);gap:0 8px}
 .bounds td::before{content:attr(data-meter);font-size:13px;color:var(--soft)}
-.line{grid-template-columns:2.4em max-content minmax(0,1fr) max-content;font-size:12px}
+.bounds td>*{grid-column:2}
+.line{grid-template-columns:2.4em max-content minmax(0,1fr);font-size:12px}
+.line>.times{grid-column:3;justify-content:start;padding:0 0 0 2ch;text-align:left}
+.line>.times:empty{display:none}
 .line>a{padding-right:10px}
 .block .margin{order:-1;position:static;margin:10px 0 4px}
 .results{grid-template-columns:minmax(0,1fr)}
 .results>div{display:grid;grid-template-columns:6.5em minmax(0,1fr);align-items:baseline}
-.panel{margin-bottom:14px}
+.panels{grid-template-columns:none;grid-auto-flow:column;grid-auto-columns:86%;grid-template-rows:repeat(4,auto);gap:0 20px;
+overflow-x:auto;scroll-snap-type:x proximity;padding-bottom:6px}
+.panel{scroll-snap-align:start}
 }
 @media print{
 :root{color-scheme:light;--page:#fff;--card:#fff;--ink:#000;--soft:#444;--line:#ccc;--faint:#f4f4f4;--bound:#0b4c8f;--tint:#0b5cad14;
@@ -165,7 +178,7 @@ tr,.cause,.panels,.two{break-inside:avoid}
 h2,h3,article header{break-after:avoid}
 .margin{position:static}
 .block{grid-template-columns:minmax(0,1fr) 230px}
-.panels{grid-template-columns:repeat(3,minmax(0,1fr));gap:8px 16px}
+.panels{grid-auto-flow:row;grid-template-columns:repeat(3,minmax(0,1fr));grid-template-rows:none;gap:8px 16px;overflow:visible}
 *{print-color-adjust:exact;-webkit-print-color-adjust:exact}
 a{text-decoration:none}
 details::details-content{content-visibility:visible;display:block}

@@ -1,6 +1,6 @@
 // The table of bounds.
 ghost use Rattle.std.specs.Prelude.{◌≡◌, ◌++◌, IfOk, OnOk, codes};
-ghost use Rattle.explain_page.specs.Table.{linked_name, name_text, entry_text, cell_text, cells_text, price_text, row_text, rows_text};
+ghost use Rattle.explain_page.specs.Table.{linked_name, heading_text, name_text, entry_text, letters_text, cell_text, cells_text, price_text, row_text, rows_text};
 ghost use Rattle.explain_html.specs.Escaped.{Text};
 ghost use Rattle.explain_page.specs.Parts.{Holds};
 
@@ -146,12 +146,20 @@ fn push_name(alloc: Global, html: &mut Html, function: &Function<'_>) -> Result<
 }
 
 fn name(alloc: Global, function: &Function<'_>) -> Result<Html, AllocError>
-    ensures { IfOk result (λ html. html ≡ linked_name function.now ++ entry_text function.now.is_entry) }
+    ensures { IfOk result (λ html. html ≡ heading_text function.now) }
 {
     let mut html = Html::new(alloc);
     push_linked(alloc, &mut html, function)?;
     push_entry(&mut html, function.is_entry)?;
+    push_letters(&mut html, function.letters)?;
     Ok(html)
+}
+
+// Appends what the letters in its bounds mean.
+fn push_letters(html: &mut Html, letters: &str) -> Result<(), AllocError>
+    ensures { OnOk result (html.new ≡ html.old ++ letters_text letters.now) }
+{
+    html.element(Tag::Span, &[(Key::Class, "letters")], letters)
 }
 
 // Appends the name, with the way to its first line.

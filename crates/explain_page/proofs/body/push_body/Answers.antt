@@ -5,4 +5,4 @@ use Rattle.explain_page.proofs.Holding.{tells_around}
 use Rattle.explain_page.proofs.body.push_body.Goals as goal
 
 pub returns : goal.returns
-returns c = tells_around c.around.result c.element.new.self _ tag.Div ((key.Class, codes "page") ∷ []) c.in_ok-content.ensures c.around.ensures
+returns c = tells_around c.around.result c.element.new.self _ _ tag.Div ((key.Class, codes "page") ∷ []) c.in_ok-content.ensures c.around.ensures

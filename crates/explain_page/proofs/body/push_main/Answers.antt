@@ -6,4 +6,4 @@ use Rattle.explain_page.proofs.body.push_main.Goals as goal
 pub returns : goal.returns
 returns c =
     let before = told_in c.args.html.now _ tag.Main [] c.in_ok-sections.ensures c.in_ok-around.ensures in
-    tells_more c.element.result _ before c.element.ensures
+    tells_more c.element.result _ _ before c.element.ensures

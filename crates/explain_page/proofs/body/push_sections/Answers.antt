@@ -6,4 +6,4 @@ returns c =
     let promised = holds_more (holds_more c.in_ok-push_table.ensures c.in_ok-push_causes.ensures) c.in_ok-push_promise.ensures in
     let table = holds_more (holds_more promised c.in_ok-push_calculator.ensures.more) c.in_ok-push_source.ensures.more in
     let choices = holds_more c.in_ok-push_calculator.ensures.choices c.in_ok-push_source.ensures.more in
-    told c.push_runs.result table choices c.in_ok-push_source.ensures.source c.push_runs.ensures.runs c.push_runs.ensures.more
+    told c.push_runs.result c.args.page.now _ table choices c.in_ok-push_source.ensures.source c.push_runs.ensures.runs c.push_runs.ensures.more

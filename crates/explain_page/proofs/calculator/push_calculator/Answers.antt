@@ -6,4 +6,4 @@ use Rattle.explain_page.proofs.calculator.push_calculator.Goals as goal
 
 pub returns-clause-choices : goal.returns-clause-choices
 returns-clause-choices c =
-    held_around c.around.result _ c.args.html.now _ tag.Section ((key.Id, codes "try") ∷ (key.Hidden, []) ∷ []) c.in_ok-section.ensures c.around.ensures
+    held_around c.around.result _ c.args.html.now _ _ tag.Section ((key.Id, codes "try") ∷ (key.Hidden, []) ∷ []) c.in_ok-section.ensures c.around.ensures

@@ -6,4 +6,4 @@ use Rattle.explain_page.proofs.calculator.push_fields.Goals as goal
 
 pub returns : goal.returns
 returns c =
-    held_around c.around.result _ c.args.html.now _ tag.Div ((key.Class, codes "calculator") ∷ (key.Id, codes "calculator") ∷ []) c.in_ok-fields.ensures c.around.ensures
+    held_around c.around.result _ c.args.html.now _ _ tag.Div ((key.Class, codes "calculator") ∷ (key.Id, codes "calculator") ∷ []) c.in_ok-fields.ensures c.around.ensures

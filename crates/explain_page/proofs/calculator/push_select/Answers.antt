@@ -8,4 +8,4 @@ use Rattle.explain_page.proofs.calculator.push_select.Goals as goal
 pub returns : goal.returns
 returns c =
     let all = holds_last (choices_text c.args.page.now.functions.now) c.new-choices.result c.in_ok-push_choices.ensures in
-    held_around c.around.result _ c.element.new.self _ tag.Select ((key.Id, codes "pick") ∷ []) all c.around.ensures
+    held_around c.around.result _ c.element.new.self _ _ tag.Select ((key.Id, codes "pick") ∷ []) all c.around.ensures

@@ -5,4 +5,4 @@ use Rattle.explain_page.proofs.Holding.{added_around}
 use Rattle.explain_page.proofs.source.push_beside.Goals as goal
 
 pub returns : goal.returns
-returns c = added_around c.around.result _ c.args.html.now _ tag.Div ((key.Class, codes "block") ∷ []) c.in_ok-columns.ensures c.around.ensures
+returns c = added_around c.around.result _ c.args.html.now _ _ tag.Div ((key.Class, codes "block") ∷ []) c.in_ok-columns.ensures c.around.ensures

@@ -7,4 +7,4 @@ use Rattle.explain_page.proofs.source.push_code.Goals as goal
 pub returns : goal.returns
 returns c =
     let all = holds_last (lines_text c.args.lines.now) c.new-code.result c.in_ok-push_lines.ensures in
-    held_around c.around.result _ c.args.html.now _ tag.Div [] all c.around.ensures
+    held_around c.around.result _ c.args.html.now _ _ tag.Div [] all c.around.ensures

@@ -5,4 +5,4 @@ use Rattle.explain_page.proofs.Holding.{held_around}
 use Rattle.explain_page.proofs.source.push_source.Goals as goal
 
 pub returns-clause-source : goal.returns-clause-source
-returns-clause-source c = held_around c.around.result _ c.args.html.now _ tag.Section ((key.Id, codes "source") ∷ []) c.in_ok-section.ensures c.around.ensures
+returns-clause-source c = held_around c.around.result _ c.args.html.now _ _ tag.Section ((key.Id, codes "source") ∷ []) c.in_ok-section.ensures c.around.ensures

@@ -8,4 +8,4 @@ use Rattle.explain_page.proofs.table.push_body.Goals as goal
 pub returns : goal.returns
 returns c =
     let all = holds_last (rows_text c.args.functions.now) c.new-rows.result c.in_ok-push_rows.ensures in
-    held_around c.around.result _ c.args.html.now _ tag.Tbody ((key.Role, codes "rowgroup") ∷ []) all c.around.ensures
+    held_around c.around.result _ c.args.html.now _ _ tag.Tbody ((key.Role, codes "rowgroup") ∷ []) all c.around.ensures

@@ -6,4 +6,4 @@ use Rattle.explain_page.proofs.table.push_grid.Goals as goal
 
 pub returns : goal.returns
 returns c =
-    held_around c.around.result _ c.args.html.now _ tag.Table ((key.Class, codes "bounds") ∷ (key.Role, codes "table") ∷ []) c.in_ok-grid.ensures c.around.ensures
+    held_around c.around.result _ c.args.html.now _ _ tag.Table ((key.Class, codes "bounds") ∷ (key.Role, codes "table") ∷ []) c.in_ok-grid.ensures c.around.ensures
