@@ -9,11 +9,8 @@ use Rattle.base64.specs.GeneralPurpose.{encode_of}
 abbrev pub digest_text : Text → Text
 digest_text text = codes "sha256-" ++ encode_of standard (sha256 text)
 
--- what has these digests, as a style sheet and as a script, and nothing else
-abbrev pub allowing : Text → Text → Text
-allowing style script =
-    codes "default-src 'none'; style-src '" ++ (style ++ (codes "'; script-src '" ++ (script ++ codes "'; base-uri 'none'; form-action 'none'")))
-
 -- this style sheet and this script, and nothing else
 abbrev pub policy_text : Text → Text → Text
-policy_text style script = allowing (digest_text style) (digest_text script)
+policy_text style script =
+    (((codes "default-src 'none'; style-src '" ++ digest_text style) ++ codes "'; script-src '") ++ digest_text script)
+    ++ codes "'; base-uri 'none'; form-action 'none'"
