@@ -59,11 +59,11 @@ pub held_behind : {A E : Type 0} (r : Result A E) {part old : Text} (new more : 
 held_behind (Ok a) new more h is = holds_more h (more, is)
 held_behind (Err e) new more h is = tt
 
--- an element that holds what is equal
-pub put_around : {A E : Type 0} (r : Result A E) (old new content text : Text) (t : Tag) (attributes : List Attribute) →
-    content ≡ text → OnOk r (new ≡ old ++ around t attributes content) → OnOk r (new ≡ old ++ around t attributes text)
-put_around (Ok a) old new content text t attributes same is = is ∙ ap (λ x. old ++ around t attributes x) same
-put_around (Err e) old new content text t attributes same is = tt
+-- what is equal, with something around it
+pub put : {A E : Type 0} (r : Result A E) (wrap : Text → Text) (old new content text : Text) →
+    content ≡ text → OnOk r (new ≡ old ++ wrap content) → OnOk r (new ≡ old ++ wrap text)
+put (Ok a) wrap old new content text same is = is ∙ ap (λ x. old ++ wrap x) same
+put (Err e) wrap old new content text same is = tt
 
 -- something that holds this is appended, alone or in an element
 pub added : {A E : Type 0} (r : Result A E) (part old new : Text) → OnOk r (new ≡ old ++ part) → OnOk r (Adds part old new)

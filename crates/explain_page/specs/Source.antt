@@ -63,9 +63,12 @@ line_class (Some function) = codes "line hit"
 abbrev pub classed_text : Text → Text → Text → Text
 classed_text class id parts = around tag.Div ((key.Class, class) ∷ (key.Id, id) ∷ []) parts ++ escaped (codes "\n")
 
+abbrev pub around_line : Line → Text → Text
+around_line l parts = classed_text (line_class l.hit) (codes "L" ++ decimal l.number) parts
+
 -- a line, with its number, which links to it
 abbrev pub line_text : Line → Text
-line_text l = classed_text (line_class l.hit) (codes "L" ++ decimal l.number) (number_text l.number ++ words_text l)
+line_text l = around_line l (number_text l.number ++ words_text l)
 
 -- lines, in order, and no others
 abbrev pub lines_text : List Line → Text

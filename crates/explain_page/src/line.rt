@@ -1,6 +1,6 @@
 // Lines of the source.
-ghost use Rattle.std.specs.Prelude.{◌≡◌, ◌++◌, OnOk};
-ghost use Rattle.explain_page.specs.Source.{span_text, spans_text, way_text, hit_text, code_text, number_text, scale_of, words_text, line_class, classed_text, line_text, lines_text};
+ghost use Rattle.std.specs.Prelude.{◌≡◌, ◌++◌, IfOk, OnOk};
+ghost use Rattle.explain_page.specs.Source.{span_text, spans_text, way_text, hit_text, code_text, number_text, scale_of, words_text, line_class, classed_text, around_line, line_text, lines_text};
 
 use crate::number::{cause_link, digits, line_link};
 use crate::page::{Growth, Line, Look, Span};
@@ -25,11 +25,31 @@ pub(crate) fn push_lines(
 fn push_line(alloc: Global, html: &mut Html, line: &Line<'_>) -> Result<(), AllocError>
     ensures { OnOk result (html.new ≡ html.old ++ line_text line.now) }
 {
-    let mut parts = Html::new(alloc);
-    push_number(alloc, &mut parts, line.number)?;
-    push_words(alloc, &mut parts, line)?;
+    let parts = parts(alloc, line)?;
+    push_parts(alloc, html, line, &parts)
+}
+
+// Its number and its words.
+fn parts(alloc: Global, line: &Line<'_>) -> Result<Html, AllocError>
+    ensures { IfOk result (λ html. html ≡ number_text line.now.number ++ words_text line.now) }
+{
+    let mut html = Html::new(alloc);
+    push_number(alloc, &mut html, line.number)?;
+    push_words(alloc, &mut html, line)?;
+    Ok(html)
+}
+
+// Appends a line that holds these parts.
+fn push_parts(
+    alloc: Global,
+    html: &mut Html,
+    line: &Line<'_>,
+    parts: &Html,
+) -> Result<(), AllocError>
+    ensures { OnOk result (html.new ≡ html.old ++ around_line line.now parts.now) }
+{
     let id = format!(in alloc; "L{}", line.number)?;
-    push_classed(html, line_class(line.hit), &id, &parts)
+    push_classed(html, line_class(line.hit), &id, parts)
 }
 
 fn line_class(hit: Option<&str>) -> &'static str
