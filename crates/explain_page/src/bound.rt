@@ -90,14 +90,14 @@ fn push_declared(
     }
 }
 
-fn push_verdict(
-    alloc: Global,
-    html: &mut Html,
-    declared: &Declared<'_>,
-) -> Result<(), AllocError>
+fn push_verdict(alloc: Global, html: &mut Html, declared: &Declared<'_>) -> Result<(), AllocError>
     ensures { OnOk result (html.new ≡ html.old ++ verdict_text declared.now) }
 {
-    let words = format!(in alloc; "declared {}: {}", declared.algebra, verdict(declared.is_kept))?;
+    let words = format!(in alloc;
+        "declared {}: {}",
+        declared.algebra,
+        verdict(declared.is_kept)
+    )?;
     html.element(
         Tag::Span,
         &[(Key::Class, verdict_class(declared.is_kept))],
@@ -114,5 +114,9 @@ fn verdict(is_kept: bool) -> &'static str
 fn verdict_class(is_kept: bool) -> &'static str
     ensures { result.now ≡ verdict_class is_kept }
 {
-    if is_kept { "declared" } else { "declared lacks" }
+    if is_kept {
+        "declared"
+    } else {
+        "declared lacks"
+    }
 }

@@ -21,8 +21,8 @@ mod top;
 pub use cause::push_cause;
 pub use frame::{Sheets, write_page};
 pub use page::{
-    Block, Bound, Cause, Cost, Declared, Function, Growth, Line, Look, Page, Pair, Panel, Panels, Picture,
-    Place, Runs, Span,
+    Block, Bound, Cause, Cost, Declared, Function, Growth, Line, Look, Page, Pair, Panel, Panels,
+    Picture, Place, Runs, Span,
 };
 pub use runs::push_panels;
 pub use script::SCRIPT;

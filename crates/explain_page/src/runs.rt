@@ -65,7 +65,11 @@ fn push_line_key(
     words: &str,
 ) -> Result<(), AllocError> {
     let mut mark = Html::new(alloc);
-    mark.element(Tag::Path, &[(Key::Class, class), (Key::Shape, "M1 9L25 3")], "")?;
+    mark.element(
+        Tag::Path,
+        &[(Key::Class, class), (Key::Shape, "M1 9L25 3")],
+        "",
+    )?;
     push_key(alloc, html, &mark, words)
 }
 
@@ -112,7 +116,11 @@ fn push_key_parts(html: &mut Html, mark: &Html, words: &str) -> Result<(), Alloc
 
 // Appends the choice of the axes, which the style sheet follows.
 fn push_axes(html: &mut Html) -> Result<(), AllocError> {
-    html.element(Tag::Span, &[(Key::Class, "soft"), (Key::Id, "axes")], "Axes")?;
+    html.element(
+        Tag::Span,
+        &[(Key::Class, "soft"), (Key::Id, "axes")],
+        "Axes",
+    )?;
     html.void(
         Void::Input,
         &[
@@ -125,7 +133,11 @@ fn push_axes(html: &mut Html) -> Result<(), AllocError> {
     html.element(Tag::Label, &[(Key::For, "logarithmic")], "logarithmic")?;
     html.void(
         Void::Input,
-        &[(Key::Kind, "radio"), (Key::Name, "axes"), (Key::Id, "linear")],
+        &[
+            (Key::Kind, "radio"),
+            (Key::Name, "axes"),
+            (Key::Id, "linear"),
+        ],
     )?;
     html.element(Tag::Label, &[(Key::For, "linear")], "linear")
 }

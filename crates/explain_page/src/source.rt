@@ -82,11 +82,7 @@ fn push_code(alloc: Global, html: &mut Html, lines: &[Line<'_>]) -> Result<(), A
     html.around(Tag::Div, &[], &code)
 }
 
-fn push_margin(
-    alloc: Global,
-    html: &mut Html,
-    functions: &[Function<'_>],
-) -> Result<(), AllocError>
+fn push_margin(alloc: Global, html: &mut Html, functions: &[Function<'_>]) -> Result<(), AllocError>
     ensures { OnOk result ((more : Text) × (html.new ≡ html.old ++ more)) }
 {
     let mut bounds = Html::new(alloc);

@@ -182,12 +182,7 @@ fn push_entry(html: &mut Html, is_entry: bool) -> Result<(), AllocError>
 }
 
 // Appends what is told of a meter.
-fn push_cell(
-    alloc: Global,
-    html: &mut Html,
-    meter: &str,
-    told: &Cost<'_>,
-) -> Result<(), AllocError>
+fn push_cell(alloc: Global, html: &mut Html, meter: &str, told: &Cost<'_>) -> Result<(), AllocError>
     ensures { OnOk result (html.new ≡ html.old ++ cell_text meter.now told.now) }
 {
     let content = cost(alloc, told)?;

@@ -57,12 +57,7 @@ pub(crate) fn push_last(
     push_end(html, &x, &y, &text)
 }
 
-fn push_end<'a>(
-    html: &mut Html,
-    x: &'a str,
-    y: &'a str,
-    text: &str,
-) -> Result<(), AllocError> {
+fn push_end<'a>(html: &mut Html, x: &'a str, y: &'a str, text: &str) -> Result<(), AllocError> {
     html.element(
         Tag::Words,
         &[

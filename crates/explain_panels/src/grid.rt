@@ -37,12 +37,7 @@ fn push_steps(
 }
 
 // Appends a line for zero, where a cost is, and for some powers of 10.
-fn push_powers(
-    alloc: Global,
-    html: &mut Html,
-    frame: Frame,
-    axis: Axis,
-) -> Result<(), AllocError> {
+fn push_powers(alloc: Global, html: &mut Html, frame: Frame, axis: Axis) -> Result<(), AllocError> {
     if axis.zero {
         push_cost(alloc, html, frame, 0)?;
     }
