@@ -1,7 +1,7 @@
 -- What a page tells of functions.
 use Rattle.std.specs.Prelude.{◌≡◌, ◌&&◌, ◌||◌, ℕ, suc, nat_eq, Bool, false, not, cond, Option, Some, None, List, [], ◌∷◌, ◌++◌, codes}
 use Rattle.std.specs.List.{list_any}
-use Rattle.raml_syntax.specs.Tree.{Text, Function, Prog}
+use Rattle.raml_syntax.specs.Tree.{Text, Parameter, Function, Prog}
 use Rattle.raml_syntax.specs.Types.{types_of}
 use Rattle.simple_types.specs.Text.{type_text}
 use Rattle.call_groups.specs.Calls.{calls_of}
@@ -10,9 +10,20 @@ use Rattle.explain_algebra.specs.Laws.{are_shallow}
 use Rattle.explain_bounds.specs.Lines.{names_of}
 use Rattle.explain_degrees.specs.declared.finding.Finding.{Finding}
 use Rattle.explain_degrees.specs.declared.finding.Findings.{Findings}
-use Rattle.explain_insight.specs.Header.{parameters_text}
 use Rattle.explain_places.specs.Places.{line}
 use Rattle.explain_report.specs.Costs.{Told, TellsFound}
+
+-- `l : int list`
+abbrev pub parameter_text : Parameter → Text
+parameter_text p = (p.name ++ codes " : ") ++ type_text p.type
+
+abbrev pub parameters_behind : List Parameter → Text
+parameters_behind [] = []
+parameters_behind (p ∷ ps) = codes ", " ++ (parameter_text p ++ parameters_behind ps)
+
+abbrev pub parameters_text : List Parameter → Text
+parameters_text [] = []
+parameters_text (p ∷ ps) = parameter_text p ++ parameters_behind ps
 
 -- `(l : int list) : int`
 abbrev pub signature_text : Function → Text

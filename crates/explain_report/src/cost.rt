@@ -9,7 +9,7 @@ ghost use Rattle.base_poly.specs.Indices.{AreIndices};
 ghost use Rattle.poly_point.specs.Point.{AreLow};
 ghost use Rattle.report_text.specs.Names as names;
 ghost use Rattle.explain_bounds.specs.Written.{CanBeTold};
-ghost use Rattle.explain_degrees.specs.declared.finding.Finding.TheVariants as finding;
+ghost use Rattle.explain_degrees.specs.declared.finding.Finding.TheVariants as kind;
 ghost use Rattle.explain_report.specs.Costs.{Waits, TellsPoly, TellsFound};
 ghost use Rattle.explain_report.specs.Read.{told_in, told_of};
 
@@ -79,7 +79,7 @@ pub(crate) fn cost_text(
     finding: &Finding,
 ) -> Result<CostText, AllocError>
     requires told { CanBeTold (types_of (function_of fun.now)) finding.now }
-    requires analysed { finding.now ≢ finding.Refused }
+    requires analysed { finding.now ≢ kind.Refused }
     ensures { IfOk result (λ text.
         TellsFound (program_of program.now) (function_of fun.now) finding.now (told_of (function_of fun.now).name text)) }
 {

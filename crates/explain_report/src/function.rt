@@ -4,8 +4,7 @@ ghost use Rattle.std.specs.Option.{option_map};
 ghost use Rattle.raml_syntax.specs.Types.{types_of};
 ghost use Rattle.raml_syntax.specs.Read.{program_of, function_of, parameter_of};
 ghost use Rattle.explain_places.specs.Places as places;
-ghost use Rattle.explain_insight.specs.Header.{parameter_text, parameters_text, parameters_behind};
-ghost use Rattle.explain_report.specs.Functions.{signature_text, letters_text};
+ghost use Rattle.explain_report.specs.Functions.{parameter_text, parameters_text, parameters_behind, signature_text, letters_text};
 
 use explain_algebra::{are_shallow, push_legend, size_names};
 use explain_bounds::{parameter_names, parameter_types};

@@ -1,6 +1,6 @@
 use Rattle.std.proofs.Common.{◌≡◌, ◌++◌, map, drop, string_bytes}
 use Rattle.raml_syntax.specs.Read.{parameter_of}
-use Rattle.explain_insight.specs.Header.{parameters_behind}
+use Rattle.explain_report.specs.Functions.{parameters_behind}
 use Rattle.explain_report.proofs.function.push_parameters_behind.Given as goal
 
 abbrev pub invariant-loop-param : goal.invariant-loop-param
