@@ -1,7 +1,3 @@
 pub mod Rebuilt
-pub mod Stands
 pub mod Keep
-pub mod Each
-pub mod Arguments
-pub mod SameRuns
-mod Only
+pub mod Only

@@ -2,8 +2,9 @@
 use Rattle.std.specs.Prelude.{◌≡◌, pos, ℕ, [], ◌∷◌, codes}
 use Rattle.raml_syntax.specs.Tree as t
 use Rattle.raml_syntax.specs.Tree.{Text, Type', Integer, PairOf, ListOf, Bound, Parameter, Function, Prog}
-use Rattle.explain_changes.specs.Built as b
-use Rattle.explain_changes.specs.Sites.{Site, program_sites, changed_program}
+use Rattle.explain_rewriting.specs.Built as b
+use Rattle.explain_rewriting.specs.Site.{Site}
+use Rattle.explain_changes.specs.Sites.{program_sites, changed_program}
 use Rattle.explain_edits.specs.Edits.{with_edits}
 use Rattle.explain_changes.specs.Edits.{edit}
 

@@ -6,8 +6,10 @@ use Rattle.raml_syntax.specs.Value.{Value, HaveTypes}
 use Rattle.raml_syntax.specs.Eval.{Run, find, run_of}
 use Rattle.raml_syntax.specs.Types.{types_of, Typed}
 use Rattle.raml_syntax.specs.Node.{AllNodes, NumberFits}
-use Rattle.explain_changes.specs.Sites.{Site, is_chosen, program_sites, changed_function, changed_program}
-use Rattle.explain_changes.specs.Same.{SameProgram}
+use Rattle.explain_rewriting.specs.Begin.{is_chosen}
+use Rattle.explain_rewriting.specs.Same.{SameProgram}
+use Rattle.explain_rewriting.specs.Site.{Site}
+use Rattle.explain_changes.specs.Sites.{program_sites, changed_function, changed_program}
 
 -- none of these sites is at a chosen byte
 abbrev pub NoneIsChosen : List ℕ → List Site → Type 0

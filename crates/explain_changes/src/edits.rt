@@ -3,10 +3,10 @@ ghost use Rattle.std.specs.Prelude.{◌≡◌, ◌++◌, ◌∷◌, [], IfOk, On
 ghost use Rattle.explain_edits.specs.Edits.{with_edits};
 ghost use Rattle.explain_edits.specs.Read.{edit_of, edits_of};
 ghost use Rattle.explain_changes.specs.Edits as e;
-ghost use Rattle.explain_changes.specs.Read.{site_of, sites_of};
+ghost use Rattle.explain_rewriting.specs.Read.{site_of, sites_of};
 
-use crate::site::Site;
 use explain_edits::{Edit, edited};
+use explain_rewriting::Site;
 use std::alloc::{AllocError, Global};
 
 /// The source in which the values at some of its sites, in their order, are built again. All else is kept, layout and comments

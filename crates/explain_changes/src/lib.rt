@@ -2,17 +2,9 @@
 //! built again from its parts.
 #![tactic(auto)]
 
-mod built;
-mod compare;
 mod edits;
-pub mod kind;
 pub mod laws;
-pub mod scope;
-mod site;
-mod uses;
+mod rebuilding;
 
-pub use built::Built;
-pub use compare::is_changed;
 pub use edits::changed_text;
-pub use site::Site;
-pub use uses::sites;
+pub use rebuilding::{is_changed, sites};

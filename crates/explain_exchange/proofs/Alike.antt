@@ -10,7 +10,7 @@ use Rattle.raml_syntax.specs.Node.{nodes, nodes_of_all}
 use Rattle.raml_syntax.specs.Read.{term_of, terms_of, terms, parameter_of}
 use Rattle.raml_syntax.specs.declared.tree.Expr.{Expr}
 use Rattle.raml_syntax.specs.declared.program.Param.{Param}
-use Rattle.explain_changes.specs.Same.{Same, SameAll, SameParameters}
+use Rattle.explain_rewriting.specs.Same.{Same, SameAll, SameParameters}
 use Rattle.explain_exchange.specs.Exchange.{exchange, TwoParameters, exchanged, all_exchanged}
 use Rattle.explain_exchange.specs.Read.{place_before, HasSameType}
 use Rattle.explain_exchange.proofs.Lists.{same_length, map_exchange, at_first, at_second, elsewhere, not_before, not_within}

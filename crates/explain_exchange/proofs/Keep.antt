@@ -13,7 +13,7 @@ use Rattle.raml_syntax.specs.Read.{terms}
 use Rattle.raml_syntax.specs.Eval.{Run, done, cut, costs, goes_on, and_then, node, Env, Calls, walk, walk_all, find, names_of, bind_all, enter, calls_at, run_of}
 use Rattle.raml_syntax.specs.Types.{Context, Way, Finding, Checking, HasType, CheckEach, Checks, types_of, bind_types, Differ, Typed}
 use Rattle.raml_syntax.specs.Node.{count}
-use Rattle.explain_changes.proofs.SameRuns.{SameFound, types_same, find_same, run_same}
+use Rattle.explain_rewriting.proofs.SameRuns.{SameFound, types_same, find_same, run_same}
 use Rattle.explain_exchange.specs.Exchange.{exchange, TwoParameters, in_order, exchanged, all_exchanged, exchanged_function, exchanged_program}
 use Rattle.explain_exchange.specs.Laws.{RunsExchanged, ExchangingKeeps, KeepsExchanged, WrittenKeeps}
 use Rattle.explain_exchange.proofs.Lists.{map_exchange}

@@ -3,7 +3,7 @@ use Rattle.std.specs.Prelude.{◌≡◌, ℕ, List, true, Some}
 use Rattle.std.specs.List.{slice_get}
 use Rattle.raml_syntax.specs.Tree.{Function, Prog}
 use Rattle.raml_syntax.specs.Read.{program_of}
-use Rattle.explain_changes.specs.Same.{SameProgram}
+use Rattle.explain_rewriting.specs.Same.{SameProgram}
 use Rattle.explain_degrees.specs.declared.finding.Findings.{Findings}
 use Rattle.explain_lines.specs.Mended.{mended_lines, mends_group}
 use Rattle.explain_lines.specs.Read.{lines_of}

@@ -4,7 +4,7 @@ use Rattle.raml_syntax.specs.Tree.{Text, Function, Prog}
 use Rattle.raml_syntax.specs.Value.{Value}
 use Rattle.raml_syntax.specs.Eval.{Run, find, run_of}
 use Rattle.raml_syntax.specs.Types.{types_of, Typed}
-use Rattle.explain_changes.specs.Same.{SameProgram}
+use Rattle.explain_rewriting.specs.Same.{SameProgram}
 use Rattle.explain_exchange.specs.Exchange.{TwoParameters, in_order, exchanged_function, exchanged_program}
 
 -- a run, and one that gives the same, or is cut where the first is; a value at the same ticks, cells and work

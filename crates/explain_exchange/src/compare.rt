@@ -2,7 +2,7 @@
 ghost use Rattle.std.specs.Prelude.{◌↔◌, IsTrue, map};
 ghost use Rattle.raml_syntax.specs.Tree as t;
 ghost use Rattle.raml_syntax.specs.Read.{program_of, function_of, parameter_of, term_of, terms_of, terms};
-ghost use Rattle.explain_changes.specs.Same.{Same, SameAll, SameParameters, SameFunction, SameProgram};
+ghost use Rattle.explain_rewriting.specs.Same.{Same, SameAll, SameParameters, SameFunction, SameProgram};
 ghost use Rattle.explain_exchange.specs.Exchange as x;
 ghost use Rattle.explain_exchange.specs.Read.{two_of, HasSameType};
 

@@ -5,7 +5,7 @@ use Rattle.raml_syntax.specs.Read.{program_of}
 use Rattle.call_groups.specs.Groups.{IsGrouping}
 use Rattle.explain_check.specs.Checks.{IsProgramOf}
 use Rattle.explain_changes.specs.Sites.{program_sites}
-use Rattle.explain_changes.specs.Read.{sites_of}
+use Rattle.explain_rewriting.specs.Read.{sites_of}
 use Rattle.explain_uses.specs.Uses.{program_uses}
 use Rattle.explain_uses.specs.Read.{uses_of}
 use Rattle.explain_degrees.specs.declared.finding.Findings.{Findings}

@@ -5,8 +5,8 @@ use Rattle.raml_syntax.specs.Tree.{Text, Prog}
 use Rattle.raml_syntax.specs.Read.{program_of}
 use Rattle.call_groups.specs.Read.{ids_of}
 use Rattle.explain_changes.specs.Sites.{program_sites}
-use Rattle.explain_changes.specs.Read.{sites_of}
-use Rattle.explain_changes.specs.declared.site.Site.{Site}
+use Rattle.explain_rewriting.specs.Read.{sites_of}
+use Rattle.explain_rewriting.specs.declared.site.Site.{Site}
 use Rattle.explain_rounds.specs.Read.{calls_of}
 use Rattle.explain_rounds.specs.Found.{pairs_of}
 use Rattle.explain_rounds.specs.declared.idle.Kind.TheVariants.{Computed}

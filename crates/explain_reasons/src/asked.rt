@@ -1,6 +1,6 @@
 // What is asked about.
 use call_groups::Groups;
-use explain_changes::Site;
+use explain_rewriting::Site;
 use explain_mending::Original;
 use explain_uses::LaterUse;
 use simple_types::Typed;

@@ -4,7 +4,7 @@ use Rattle.std.specs.List.{Contains}
 use Rattle.std.proofs.lemmas.List.Elements.{All-contains, All-contains_itself, All-same}
 use Rattle.raml_syntax.specs.Tree.{Prog}
 use Rattle.raml_syntax.specs.declared.program.FunId.{FunId}
-use Rattle.explain_changes.specs.declared.site.Site.{Site}
+use Rattle.explain_rewriting.specs.declared.site.Site.{Site}
 use Rattle.explain_mending.specs.Mended.{AreAmong}
 use Rattle.explain_mending.specs.Reached.{IsReached, AreReached}
 use Rattle.explain_rebuild.specs.Reached.{IsReachedSite, NamesOneOf}

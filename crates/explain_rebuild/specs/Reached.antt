@@ -4,7 +4,7 @@ use Rattle.std.specs.List.{Contains}
 use Rattle.raml_syntax.specs.Tree.{Prog}
 use Rattle.raml_syntax.specs.Place.{place_of}
 use Rattle.raml_syntax.specs.declared.program.FunId.{FunId}
-use Rattle.explain_changes.specs.declared.site.Site.{Site}
+use Rattle.explain_rewriting.specs.declared.site.Site.{Site}
 use Rattle.explain_mending.specs.Reached.{IsReached}
 
 -- the site is in a function of the group, or in one that it reaches by calls

@@ -1,7 +1,7 @@
 -- Values that are built again so that a group gets bounds.
 use Rattle.std.specs.Prelude.{ℕ, List}
 use Rattle.raml_syntax.specs.Tree.{Text, Prog}
-use Rattle.explain_changes.specs.declared.site.Site.{Site}
+use Rattle.explain_rewriting.specs.declared.site.Site.{Site}
 use Rattle.explain_degrees.specs.declared.finding.Findings.{Findings}
 use Rattle.explain_lines.specs.Read.{lines_of}
 use Rattle.explain_mending.specs.Mended.{AreAmong, IsMended}

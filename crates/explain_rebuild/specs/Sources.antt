@@ -8,9 +8,9 @@ use Rattle.explain_trials.specs.declared.trial.Trial.{Trial}
 use Rattle.explain_edits.specs.Edits.{with_edits}
 use Rattle.explain_changes.specs.Edits.{edit}
 use Rattle.explain_changes.specs.Sites.{changed_program}
-use Rattle.explain_changes.specs.Same.{SameProgram}
-use Rattle.explain_changes.specs.Read.{sites_of, bytes_of}
-use Rattle.explain_changes.specs.declared.site.Site.{Site}
+use Rattle.explain_rewriting.specs.Same.{SameProgram}
+use Rattle.explain_rewriting.specs.Read.{sites_of, bytes_of}
+use Rattle.explain_rewriting.specs.declared.site.Site.{Site}
 
 -- The text is the source in which the values at these sites are built again, and it spells the program that is meant, places
 -- aside.

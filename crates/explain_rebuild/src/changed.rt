@@ -4,11 +4,12 @@ ghost use Rattle.raml_syntax.specs.Read.{program_of};
 ghost use Rattle.explain_check.specs.Checks.{IsProgramOf};
 ghost use Rattle.explain_edits.specs.Edits.{with_edits};
 ghost use Rattle.explain_changes.specs.Edits.{edit};
-ghost use Rattle.explain_changes.specs.Read.{sites_of};
+ghost use Rattle.explain_rewriting.specs.Read.{sites_of};
 ghost use Rattle.explain_rebuild.specs.Sources.{IsChangedSource, IsTried};
 
-use explain_changes::{Site, changed_text, is_changed};
+use explain_changes::{changed_text, is_changed};
 use explain_mending::Original;
+use explain_rewriting::Site;
 use explain_trials::{Trial, trial_of, typed_text};
 use simple_types::Typed;
 use std::alloc::{AllocError, Global};

@@ -8,7 +8,7 @@ ghost use Rattle.explain_rebuild.specs.Rebuilt.{IsRebuilt};
 ghost use Rattle.explain_rebuild.specs.Sources.{IsTried};
 
 use crate::changed::{changed_source, try_sites};
-use explain_changes::Site;
+use explain_rewriting::Site;
 use explain_lines::Line;
 use explain_mending::{Attempt, Mended, Original, mend};
 use explain_trials::Trial;

@@ -9,7 +9,7 @@ ghost use Rattle.explain_mending.specs.Reached.{MayAdd};
 ghost use Rattle.explain_rebuild.specs.Reached.{IsReachedSite, NamesOneOf};
 
 use call_groups::Groups;
-use explain_changes::Site;
+use explain_rewriting::Site;
 use explain_mending::reached;
 use raml_syntax::{FunId, Program};
 use std::alloc::{AllocError, Global};

@@ -1,8 +1,8 @@
 -- Sentences on items of a list, one after the other.
 use Rattle.std.proofs.Common.{◌≡◌, refl, sym, ap, ◌∙◌, ◌<◌, ◌+◌, ℕ, List, [], ◌∷◌, ◌++◌, length, drop, map, slice_index_or}
 use Rattle.std.proofs.lemmas.List.{append_assoc, drop_more}
-use Rattle.explain_changes.specs.Read.{site_of}
-use Rattle.explain_changes.specs.declared.site.Site.{Site}
+use Rattle.explain_rewriting.specs.Read.{site_of}
+use Rattle.explain_rewriting.specs.declared.site.Site.{Site}
 use Rattle.explain_uses.specs.Read.{use_of}
 use Rattle.explain_uses.specs.declared.later.LaterUse.{LaterUse}
 use Rattle.explain_sentences.specs.Sentences.{Sentence, of_sites, of_uses}

@@ -1,7 +1,7 @@
 -- The sentences of reasons, and what is said behind them.
 use Rattle.std.specs.Prelude.{ℕ, List, [], ◌++◌, codes}
 use Rattle.raml_syntax.specs.Tree.{Text, Prog}
-use Rattle.explain_changes.specs.Read.{sites_of}
+use Rattle.explain_rewriting.specs.Read.{sites_of}
 use Rattle.explain_rounds.specs.Read.{calls_of}
 use Rattle.explain_rounds.specs.Found.{pairs_of}
 use Rattle.explain_reasons.specs.declared.reason.Reason.{Reason}

@@ -2,8 +2,8 @@
 use Rattle.std.specs.Prelude.{ℕ, List, [], ◌∷◌, ◌++◌, Option, Some, None, slice_get, codes, decimal}
 use Rattle.raml_syntax.specs.Tree.{Text, Function, Prog}
 use Rattle.report_text.specs.Names.{name_at}
-use Rattle.explain_changes.specs.Built.{text}
-use Rattle.explain_changes.specs.Sites.{Site}
+use Rattle.explain_rewriting.specs.Built.{text}
+use Rattle.explain_rewriting.specs.Site.{Site}
 use Rattle.explain_uses.specs.Uses.{LaterUse}
 use Rattle.explain_rounds.specs.declared.idle.Kind.{Kind}
 use Rattle.explain_rounds.specs.declared.idle.Kind.TheVariants.{Smaller, Computed, Stuck}

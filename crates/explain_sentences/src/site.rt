@@ -1,12 +1,12 @@
 // Sentences on values that are built again.
 ghost use Rattle.std.specs.Prelude.{◌≡◌, ◌++◌, [], ◌∷◌, IfOk, OnOk, string_bytes};
-ghost use Rattle.explain_changes.specs.Read.{built_of, site_of, sites_of};
-ghost use Rattle.explain_changes.specs.Built.{text};
+ghost use Rattle.explain_rewriting.specs.Read.{built_of, site_of, sites_of};
+ghost use Rattle.explain_rewriting.specs.Built.{text};
 ghost use Rattle.explain_sentences.specs.Sentences as s;
 ghost use Rattle.explain_sentences.specs.Read.{sentences_of};
 
 use crate::sentence::Sentence;
-use explain_changes::{Built, Site};
+use explain_rewriting::{Built, Site};
 use std::alloc::{AllocError, Global};
 
 /// The expression that builds a value.

@@ -4,7 +4,7 @@ use Rattle.std.specs.Option.{option_map}
 use Rattle.raml_syntax.specs.Tree as t
 use Rattle.raml_syntax.specs.Read.{ty_of, term_of, program_of}
 use Rattle.raml_syntax.specs.declared.tree.Pos.{Pos}
-use Rattle.explain_changes.specs.Read.{scope_in}
+use Rattle.explain_rewriting.specs.Read.{scope_in}
 use Rattle.explain_uses.specs.Before as b
 use Rattle.explain_uses.specs.Uses as u
 use Rattle.explain_uses.specs.declared.before.Before.{Before}

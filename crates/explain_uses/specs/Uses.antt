@@ -2,8 +2,8 @@
 use Rattle.std.specs.Prelude.{ℕ, List, [], ◌∷◌, ◌++◌, cond, Option, Some}
 use Rattle.raml_syntax.specs.Tree as t
 use Rattle.raml_syntax.specs.Tree.{Text, Type', Function, Parameter, Prog}
-use Rattle.explain_changes.specs.Scope as s
-use Rattle.explain_changes.specs.Scope.{kind, type_at, is_sized}
+use Rattle.explain_rewriting.specs.Scope as s
+use Rattle.explain_rewriting.specs.Scope.{kind, type_at, is_sized}
 use Rattle.explain_uses.specs.Before.{Before, Named, Passed, first_before}
 
 -- a use in a function, the first use before it, and the type of the variable

@@ -12,8 +12,8 @@ use crate::later::LaterUse;
 use crate::walk::branches::{
     walk_let, walk_let_pair, walk_match_list, walk_match_option, walk_match_tree,
 };
-use explain_changes::kind::is_known_sized;
-use explain_changes::scope::Scope;
+use explain_rewriting::kind::is_known_sized;
+use explain_rewriting::scope::Scope;
 use raml_syntax::{Expr, Form, Fun, Name, Param, Pos, Program};
 use std::alloc::{AllocError, Global};
 

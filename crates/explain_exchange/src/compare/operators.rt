@@ -2,7 +2,7 @@
 ghost use Rattle.std.specs.Prelude.{◌↔◌, IsTrue};
 ghost use Rattle.raml_syntax.specs.Tree as t;
 ghost use Rattle.raml_syntax.specs.Read.{term_of, ty_of};
-ghost use Rattle.explain_changes.specs.Same.{Same};
+ghost use Rattle.explain_rewriting.specs.Same.{Same};
 ghost use Rattle.explain_exchange.specs.Exchange.{exchanged};
 ghost use Rattle.explain_exchange.specs.Read.{two_of};
 

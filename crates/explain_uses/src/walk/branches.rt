@@ -6,7 +6,7 @@ ghost use Rattle.explain_uses.specs.Read.{Adds, later_at};
 
 use crate::later::LaterUse;
 use crate::walk::{Place, walk, walk_behind};
-use explain_changes::kind::{element, first, kind, second};
+use explain_rewriting::kind::{element, first, kind, second};
 use raml_syntax::{Binder, Expr};
 use std::alloc::AllocError;
 

@@ -1,7 +1,7 @@
 use Rattle.std.proofs.Common.{◌≡◌, ◌++◌, map, drop}
 use Rattle.explain_edits.specs.Read.{edits_of}
 use Rattle.explain_changes.specs.Edits.{edit}
-use Rattle.explain_changes.specs.Read.{sites_of}
+use Rattle.explain_rewriting.specs.Read.{sites_of}
 use Rattle.explain_changes.proofs.edits.edits.Given as goal
 
 abbrev pub invariant-loop-site : goal.invariant-loop-site

@@ -1,7 +1,7 @@
 use Rattle.std.proofs.Common.{◌↔◌, ◌+◌, ◌*◌, drop}
 use Rattle.raml_syntax.specs.Read.{term_of, terms_of, terms}
 use Rattle.raml_syntax.specs.Node.{nodes, nodes_of_all}
-use Rattle.explain_changes.specs.Same.{SameAll}
+use Rattle.explain_rewriting.specs.Same.{SameAll}
 use Rattle.explain_exchange.specs.Exchange.{exchange, all_exchanged}
 use Rattle.explain_exchange.specs.Read.{two_of}
 use Rattle.explain_exchange.proofs.compare.+same.Given as goal

@@ -1,6 +1,6 @@
 use Rattle.std.proofs.Common.{◌↔◌, map, drop}
 use Rattle.raml_syntax.specs.Read.{parameter_of}
-use Rattle.explain_changes.specs.Same.{SameParameters}
+use Rattle.explain_rewriting.specs.Same.{SameParameters}
 use Rattle.explain_exchange.specs.Exchange.{exchange}
 use Rattle.explain_exchange.proofs.compare.same_params.Given as goal
 

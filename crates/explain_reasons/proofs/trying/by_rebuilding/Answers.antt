@@ -3,7 +3,7 @@ use Rattle.std.specs.List.{All}
 use Rattle.raml_syntax.specs.Read.{program_of}
 use Rattle.raml_syntax.specs.declared.program.Program.{Program}
 use Rattle.call_groups.specs.Read.{ids_of}
-use Rattle.explain_changes.specs.declared.site.Site.{Site}
+use Rattle.explain_rewriting.specs.declared.site.Site.{Site}
 use Rattle.explain_rebuild.specs.Reached.{IsReachedSite}
 use Rattle.explain_rebuild.specs.Rebuilt.{IsRebuilt}
 use Rattle.explain_mending.proofs.Adding.{from_some}

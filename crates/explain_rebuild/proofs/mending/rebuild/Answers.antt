@@ -1,7 +1,7 @@
 use Rattle.std.proofs.Common.{List, subst}
 use Rattle.raml_syntax.specs.Read.{program_of}
 use Rattle.call_groups.specs.Read.{ids_of}
-use Rattle.explain_changes.specs.declared.site.Site.{Site}
+use Rattle.explain_rewriting.specs.declared.site.Site.{Site}
 use Rattle.explain_lines.specs.Read.{lines_of}
 use Rattle.explain_mending.specs.Mended.{IsMended}
 use Rattle.explain_rebuild.specs.Sources.{IsTried}

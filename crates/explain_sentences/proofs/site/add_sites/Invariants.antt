@@ -1,5 +1,5 @@
 use Rattle.std.proofs.Common.{◌≡◌, ◌++◌, drop}
-use Rattle.explain_changes.specs.Read.{sites_of}
+use Rattle.explain_rewriting.specs.Read.{sites_of}
 use Rattle.explain_sentences.specs.Sentences.{of_sites}
 use Rattle.explain_sentences.specs.Read.{sentences_of}
 use Rattle.explain_sentences.proofs.site.add_sites.Given as goal

@@ -1,5 +1,0 @@
-use Rattle.std.proofs.Common.{length}
-use Rattle.explain_changes.proofs.compare.+same_below.Given as goal
-
-abbrev pub decreases-same_below : goal.decreases-same_below
-decreases-same_below l = length l.params.now

@@ -1,5 +1,0 @@
-use Rattle.std.proofs.Common.{length}
-use Rattle.explain_changes.proofs.compare.+same_functions.Given as goal
-
-abbrev pub decreases-same_functions : goal.decreases-same_functions
-decreases-same_functions l = length l.funs.now

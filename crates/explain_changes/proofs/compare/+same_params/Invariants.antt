@@ -1,5 +1,0 @@
-use Rattle.std.proofs.Common.{length}
-use Rattle.explain_changes.proofs.compare.+same_params.Given as goal
-
-abbrev pub decreases-same_params : goal.decreases-same_params
-decreases-same_params l = length l.params.now

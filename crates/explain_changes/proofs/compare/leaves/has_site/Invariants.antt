@@ -1,7 +1,0 @@
-use Rattle.std.proofs.Common.{◌≡◌, drop}
-use Rattle.explain_changes.specs.Sites.{is_chosen}
-use Rattle.explain_changes.specs.Read.{bytes_of}
-use Rattle.explain_changes.proofs.compare.leaves.has_site.Given as goal
-
-abbrev pub invariant-loop-site : goal.invariant-loop-site
-invariant-loop-site l = is_chosen (bytes_of (drop l.site-index l.chosen)) l.at.0 ≡ is_chosen (bytes_of l.chosen) l.at.0

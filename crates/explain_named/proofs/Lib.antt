@@ -1,0 +1,10 @@
+pub mod Runs
+pub mod Plain
+pub mod Mentions
+pub mod Surely
+pub mod Inside
+pub mod Keep
+pub mod Grown
+pub mod Arguments
+pub mod Appended
+pub mod Placed

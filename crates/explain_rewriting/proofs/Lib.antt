@@ -1,0 +1,9 @@
+pub mod Known
+pub mod Runs
+pub mod Keep
+pub mod SameRuns
+pub mod Arguments
+pub mod Put
+pub mod Each
+pub mod Beginning
+pub mod Only

@@ -1,0 +1,9 @@
+pub mod Built
+pub mod Scope
+pub mod Same
+pub mod Rewriting
+pub mod Begin
+pub mod Found
+pub mod Site
+pub mod Read
+pub mod Example

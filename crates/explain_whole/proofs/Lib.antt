@@ -1,0 +1,5 @@
+pub mod Runs
+pub mod Keep
+pub mod Only
+pub mod Appended
+pub mod Extents
