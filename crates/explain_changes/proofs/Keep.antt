@@ -7,13 +7,14 @@ use Rattle.raml_syntax.specs.Tree.{Text, Function, Prog}
 use Rattle.raml_syntax.specs.Eval.{done, node, Env, look, Calls, walk, calls_at, run_of}
 use Rattle.raml_syntax.specs.Default.{NoDefault, Enters, CallMeetsNone}
 use Rattle.raml_syntax.proofs.Keep.{typed_runs_keep}
-use Rattle.explain_rewriting.specs.Begin.{is_chosen}
+use Rattle.explain_rewriting.specs.Begin.{begin, is_chosen}
 use Rattle.explain_rewriting.specs.Built as m
 use Rattle.explain_rewriting.specs.Built.{Built, expression}
 use Rattle.explain_rewriting.specs.Scope.{Scope, built_at}
 use Rattle.explain_rewriting.proofs.Known.{value, Sure, Known}
 use Rattle.explain_rewriting.proofs.Keep.{PutsKeep, function_kept, written}
-use Rattle.explain_changes.specs.Sites.{rebuilding}
+use Rattle.explain_rewriting.specs.Site.{Taken}
+use Rattle.explain_changes.specs.Sites.{taken, used, rebuilding}
 use Rattle.explain_changes.specs.Laws.{RunsRebuilt, RebuildingKeeps, WrittenKeeps}
 use Rattle.explain_changes.proofs.Rebuilt.{rebuilt_same, AreRebuilt, rebuilt_closed}
 
@@ -38,15 +39,18 @@ no_term : (e : t.Term) → None ≡ Some e → ⊥
 no_term e q = cc
 
 puts : (P : Prog) (chosen : List ℕ) (c d : Calls) (start : Env) → PutsKeep AreRebuilt (Unit {0}) start P (rebuilding chosen) c d
-puts P chosen c d start S (t.Var p x) other env is k = by (is_chosen chosen p) (built_at x S) refl is
+puts P chosen c d start S e other env is k = at_use e (is_chosen chosen (begin e)) is
   where
-    by : (b : Bool) (o : Option Built) → built_at x S ≡ o → cond b (option_map (expression p) o) None ≡ Some other → RunsRebuilt (walk c (t.Var p x) env) (walk d other env)
-    by false o at put = absurd (no_term other put)
-    by true None at put = absurd (no_term other put)
-    by true (Some b) at put =
+    by : (p : ℕ) (x : Text) (o : Option Built) → built_at x S ≡ o → option_map (λ (z : Taken). expression p z.built) (taken x o) ≡ Some other → RunsRebuilt (walk c (t.Var p x) env) (walk d other env)
+    by p x None at put = absurd (no_term other put)
+    by p x (Some b) at put =
         subst (λ e. RunsRebuilt (walk c (t.Var p x) env) (walk d e env)) (same_Some _ other put)
         (subst (λ w. RunsRebuilt (node (done w)) (walk d (expression p b) env)) (sym (k.built x b at (all_sure b))) (built_run d p env b))
-puts P chosen c d start S _ other env is k = absurd (no_term other is)
+
+    at_use : (e : t.Term) → (b : Bool) → option_map (λ (z : Taken). expression (begin e) z.built) (cond b (used S e) None) ≡ Some other → RunsRebuilt (walk c e env) (walk d other env)
+    at_use e false put = absurd (no_term other put)
+    at_use (t.Var p x) true put = by p x (built_at x S) refl put
+    at_use _ true put = absurd (no_term other put)
 
 pub rebuilding_keeps : RebuildingKeeps
 rebuilding_keeps P typed fits chosen f g found args n has =

@@ -1,3 +1,4 @@
 pub mod Rebuilt
+pub mod Putting
 pub mod Keep
 pub mod Only

@@ -3,7 +3,7 @@ use Rattle.std.specs.Prelude.{ℕ, List, cond, Option, Some, None}
 use Rattle.std.specs.Option.{option_map}
 use Rattle.raml_syntax.specs.Tree as t
 use Rattle.raml_syntax.specs.Tree.{Text, Function, Prog}
-use Rattle.explain_rewriting.specs.Begin.{is_chosen}
+use Rattle.explain_rewriting.specs.Begin.{begin, is_chosen}
 use Rattle.explain_rewriting.specs.Built.{Built, expression}
 use Rattle.explain_rewriting.specs.Scope.{Scope, built_at, is_known_sized}
 use Rattle.explain_rewriting.specs.Rewriting.{Change, rewritten_function, rewritten_program}
@@ -26,10 +26,13 @@ wanted = record { at = used; splits = is_known_sized }
 abbrev pub program_sites : Prog → List Site
 program_sites = sites wanted
 
--- what builds the value of a variable, in place of its use at a chosen byte
+-- a use at a chosen byte
+abbrev pub chosen_use : List ℕ → Scope → t.Term → Option Taken
+chosen_use chosen S e = cond (is_chosen chosen (begin e)) (used S e) None
+
+-- in its place stands what builds the value
 abbrev pub rebuilt : List ℕ → Scope → t.Term → Option t.Term
-rebuilt chosen S (t.Var p x) = cond (is_chosen chosen p) (option_map (expression p) (built_at x S)) None
-rebuilt chosen S _ = None
+rebuilt chosen S e = option_map (λ (x : Taken). expression (begin e) x.built) (chosen_use chosen S e)
 
 abbrev pub rebuilding : List ℕ → Change
 rebuilding chosen = record { instead = λ P S e. rebuilt chosen S e; splits = is_known_sized }

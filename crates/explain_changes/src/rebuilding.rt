@@ -9,7 +9,7 @@ ghost use Rattle.explain_changes.specs.Sites as p;
 use explain_rewriting::kind::is_known_sized;
 use explain_rewriting::leaves::builds;
 use explain_rewriting::scope::Scope;
-use explain_rewriting::{Change, Finder, Place, Site, Taken, found, is_rewritten};
+use explain_rewriting::{Change, Finder, Place, Site, Taken, begin, found, is_rewritten};
 use raml_syntax::{Expr, Form, Program, Ty};
 use std::alloc::{AllocError, Global};
 
@@ -26,16 +26,31 @@ fn used<'s, 'a>(scope: &'s Scope<'s, 'a>, e: &'a Expr) -> Option<Taken<'a>>
     }
 }
 
-/// Whether one of the sites stands there.
-fn has_site(chosen: &[Site], e: &Expr) -> bool
-    ensures { result ≡ is_chosen (bytes_of chosen.now) e.now.at.0 }
+/// Whether one of the sites is at this byte.
+fn has_site(chosen: &[Site], at: u32) -> bool
+    ensures { result ≡ is_chosen (bytes_of chosen.now) at }
 {
     for site in chosen {
-        if site.at.0 == e.at.0 {
+        if site.at.0 == at {
             return true;
         }
     }
     false
+}
+
+/// The variable that is used at a chosen site.
+fn chosen_use<'s, 'a>(
+    chosen: &[Site],
+    scope: &'s Scope<'s, 'a>,
+    e: &'a Expr,
+) -> Option<Taken<'a>>
+    ensures { option_map taken_of result ≡ p.chosen_use (bytes_of chosen.now) (scope_in scope.now) (term_of e.now) }
+{
+    if has_site(chosen, begin(e)) {
+        used(scope, e)
+    } else {
+        None
+    }
 }
 
 /// At some sites values are built again.
@@ -51,12 +66,12 @@ impl<'c, 'p> Change for Rebuilding<'c, 'p> {
     ghost change = { λ c. rebuilding (bytes_of c.chosen.now) };
 
     fn rewrites<'s, 'a>(&self, place: Place<'s, 'a>, e: &'a Expr) -> bool {
-        has_site(self.chosen, e) && used(place.scope, e).is_some()
+        chosen_use(self.chosen, place.scope, e).is_some()
     }
 
     fn is_put<'s, 'a>(&self, place: Place<'s, 'a>, e: &'a Expr, other: &Expr) -> bool {
-        match used(place.scope, e) {
-            Some(taken) => has_site(self.chosen, e) && builds(other, taken.built),
+        match chosen_use(self.chosen, place.scope, e) {
+            Some(taken) => builds(other, taken.built),
             None => false,
         }
     }

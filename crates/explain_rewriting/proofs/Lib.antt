@@ -7,3 +7,5 @@ pub mod Put
 pub mod Each
 pub mod Beginning
 pub mod Only
+pub mod Adding
+pub mod Places

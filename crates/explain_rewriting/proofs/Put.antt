@@ -1,5 +1,6 @@
 -- What is put somewhere, and what stands there otherwise.
-use Rattle.std.proofs.Common.{◌≡◌, ◌↔◌, Bool, true, false, IsTrue, is_some, unwrap_or, Option, Some, None}
+use Rattle.std.proofs.Common.{◌≡◌, ◌↔◌, Bool, true, false, IsTrue, is_some, unwrap_or, Option, Some, None, ap}
+use Rattle.std.specs.Option.{option_map}
 use Rattle.raml_syntax.specs.Tree as t
 use Rattle.explain_rewriting.specs.Same.{Same}
 use Rattle.explain_rewriting.specs.Read.{IsThat}
@@ -11,3 +12,8 @@ put_is (Some e) inner other yes s h = h
 pub not_put : (o : Option t.Term) (inner other : t.Term) (yes : Bool) → is_some o ≡ false → IsTrue yes ↔ Same inner other → IsTrue yes ↔ Same (unwrap_or o inner) other
 not_put None inner other yes s h = h
 not_put (Some e) inner other yes s h = absurd (cc)
+
+-- what is made of a value is there where the value is
+pub is_some_of : {A B C : Type 0} (f : A → B) (g : B → C) (r : Option A) (o : Option B) → option_map f r ≡ o → is_some r ≡ is_some (option_map g o)
+is_some_of f g None o is = ap (λ p. is_some (option_map g p)) is
+is_some_of f g (Some x) o is = ap (λ p. is_some (option_map g p)) is

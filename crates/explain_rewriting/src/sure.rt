@@ -1,5 +1,5 @@
 // Whether each evaluation of an expression comes to something that is put there.
-ghost use Rattle.std.specs.Prelude.{◌≡◌, ◌∷◌, false};
+ghost use Rattle.std.specs.Prelude.{◌≡◌, ◌||◌, false};
 ghost use Rattle.raml_syntax.specs.Read.{program_of, term_of, terms_of, bound_of};
 ghost use Rattle.raml_syntax.specs.Tree as t;
 ghost use Rattle.explain_rewriting.specs.Scope as s;
@@ -36,11 +36,9 @@ fn inside_surely<'s, 'a, C: Change>(change: &C, place: Place<'s, 'a>, e: &'a Exp
             surely(change, place, a)
         }
         Form::Arith(_, a, b) | Form::Compare(_, a, b) | Form::Pair(a, b) | Form::Cons(a, b) => {
-            surely(change, place, a) || surely(change, place, b)
+            either_surely(change, place, a, b)
         }
-        Form::Node(a, b, c) => {
-            surely(change, place, a) || surely(change, place, b) || surely(change, place, c)
-        }
+        Form::Node(a, b, c) => any_surely(change, place, a, b, c),
         Form::If(c, a, b) => {
             surely(change, place, c) || surely(change, place, a) && surely(change, place, b)
         }
@@ -57,6 +55,36 @@ fn inside_surely<'s, 'a, C: Change>(change: &C, place: Place<'s, 'a>, e: &'a Exp
             option_surely(change, place, subject, empty, x, rest)
         }
     }
+}
+
+/// Of two parts of which both are evaluated.
+#[cycle(surely)]
+fn either_surely<'s, 'a, C: Change>(
+    change: &C,
+    place: Place<'s, 'a>,
+    a: &'a Expr,
+    b: &'a Expr,
+) -> bool
+    ensures { result ≡ (surely_at (C.change change.now) place.entry (term_of a.now)
+        || surely_at (C.change change.now) place.entry (term_of b.now)) }
+{
+    surely(change, place, a) || surely(change, place, b)
+}
+
+/// Of three parts of which all are evaluated.
+#[cycle(surely)]
+fn any_surely<'s, 'a, C: Change>(
+    change: &C,
+    place: Place<'s, 'a>,
+    a: &'a Expr,
+    b: &'a Expr,
+    c: &'a Expr,
+) -> bool
+    ensures { result ≡ (surely_at (C.change change.now) place.entry (term_of a.now)
+        || (surely_at (C.change change.now) place.entry (term_of b.now)
+        || surely_at (C.change change.now) place.entry (term_of c.now))) }
+{
+    surely(change, place, a) || either_surely(change, place, b, c)
 }
 
 /// Whether each such evaluation comes to something that is put in place of a part of one of the arguments.

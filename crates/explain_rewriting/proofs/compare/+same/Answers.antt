@@ -9,7 +9,7 @@ pub same_all-same_all-requires : goal.same_all-same_all-requires
 same_all-same_all-requires g t c =
     let args = c.args.args.now in
     let falls : 4 * nodes_of_all (terms_of (take (length args - 1) (drop 1 args))) + 2 < t = omega (arith, rest_falls args c.in-len1-up.len_at_least, c.decreases) in
-    (falls, tt)
+    λ κs within. (falls, within)
 
 pub same_all-returns-in-len1-up-others : goal.same_all-returns-in-len1-up-others
 same_all-returns-in-len1-up-others g t c = (

@@ -15,6 +15,12 @@ decreases-walk_all g l = 4 * nodes_of_all (terms_of l.args.now) + 2
 abbrev pub decreases-walk_subject : goal.decreases-walk_subject
 decreases-walk_subject g l = 4 * nodes (term_of l.e.now) + 2
 
+abbrev pub decreases-branches::walk_below_let : goal.decreases-branches::walk_below_let
+decreases-branches::walk_below_let g l = 4 * nodes (term_of l.e.now) + 2
+
+abbrev pub decreases-branches::walk_below_pair : goal.decreases-branches::walk_below_pair
+decreases-branches::walk_below_pair g l = 4 * nodes (term_of l.e.now) + 2
+
 abbrev pub decreases-branches::walk_let : goal.decreases-branches::walk_let
 decreases-branches::walk_let g l = 4 * (nodes (term_of l.bound.now) + nodes (term_of l.rest.now)) + 3
 

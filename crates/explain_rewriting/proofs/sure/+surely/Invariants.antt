@@ -9,6 +9,12 @@ decreases-surely g l = 4 * nodes (term_of l.e.now) + 1
 abbrev pub decreases-inside_surely : goal.decreases-inside_surely
 decreases-inside_surely g l = 4 * nodes (term_of l.e.now)
 
+abbrev pub decreases-either_surely : goal.decreases-either_surely
+decreases-either_surely g l = 4 * (nodes (term_of l.a.now) + nodes (term_of l.b.now)) + 2
+
+abbrev pub decreases-any_surely : goal.decreases-any_surely
+decreases-any_surely g l = 4 * (nodes (term_of l.a.now) + nodes (term_of l.b.now) + nodes (term_of l.c.now)) + 3
+
 abbrev pub decreases-one_surely : goal.decreases-one_surely
 decreases-one_surely g l = 4 * nodes_of_all (terms_of l.args.now) + 2
 
