@@ -1,4 +1,5 @@
 pub mod Runs
+pub mod Putting
 pub mod Keep
 pub mod Only
 pub mod Appended
