@@ -17,6 +17,6 @@ built_anywhere p q m.Nothing (t.Nothing r) s = s
 built_anywhere p q (m.Pair x y) (t.Pair r a b) s = (variable_anywhere p q x a s.0, variable_anywhere p q y b s.1)
 built_anywhere p q (m.Cons x y) (t.Cons r a b) s = (variable_anywhere p q x a s.0, variable_anywhere p q y b s.1)
 built_anywhere p q (m.Node x y z) (t.Node r a b c) s =
-    (variable_anywhere p q x a s.0, variable_anywhere p q y b s.1.0, variable_anywhere p q z c s.1.1)
+    (variable_anywhere p q x a s.0, variable_anywhere p q y b s.1, variable_anywhere p q z c s.2)
 built_anywhere p q (m.Just x) (t.Just r a) s = variable_anywhere p q x a s
 built_anywhere p q b _ s = absurd s
