@@ -65,10 +65,12 @@ impl<'c, 'p> Change for Rebuilding<'c, 'p> {
 
     ghost change = { λ c. rebuilding (bytes_of c.chosen.now) };
 
+    #[tactic(auto, using(explain_rewriting::proofs::Put::is_some_of))]
     fn rewrites<'s, 'a>(&self, place: Place<'s, 'a>, e: &'a Expr) -> bool {
         chosen_use(self.chosen, place.scope, e).is_some()
     }
 
+    #[tactic(auto, using(crate::proofs::Putting::is_put))]
     fn is_put<'s, 'a>(&self, place: Place<'s, 'a>, e: &'a Expr, other: &Expr) -> bool {
         match chosen_use(self.chosen, place.scope, e) {
             Some(taken) => builds(other, taken.built),

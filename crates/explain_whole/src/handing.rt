@@ -49,10 +49,12 @@ impl<'c, 'p> Change for Handing<'c, 'p> {
 
     ghost change = { λ c. handing (bytes_of c.chosen.now) };
 
+    #[tactic(auto, using(explain_rewriting::proofs::Put::is_some_of))]
     fn rewrites<'s, 'a>(&self, place: Place<'s, 'a>, e: &'a Expr) -> bool {
         handed_on(self.chosen, place.scope, e).is_some()
     }
 
+    #[tactic(auto, using(crate::proofs::Putting::is_put))]
     fn is_put<'s, 'a>(&self, place: Place<'s, 'a>, e: &'a Expr, other: &Expr) -> bool {
         match handed_on(self.chosen, place.scope, e) {
             Some(variable) => is_variable(variable, other),
