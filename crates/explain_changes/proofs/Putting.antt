@@ -14,8 +14,7 @@ build p x = expression p x.built
 
 pub is_put : (p : ℕ) (x : Taken) (use' : Option i.Taken) (other : t.Term) (answer : Bool) → option_map taken_of (Some x) ≡ use' → IsTrue answer ↔ Same (expression 0 (taken_of x).built) other → IsTrue answer ↔ IsThat (option_map (build p) use') other
 is_put p x use' other answer is built =
-    subst (λ o. IsTrue answer ↔ IsThat (option_map (build p) o) other) is
-    (
+    subst (λ o. IsTrue answer ↔ IsThat (option_map (build p) o) other) is (
       (λ true'. built_anywhere 0 p (taken_of x).built other (built.0 true')),
       (λ same. built.1 (built_anywhere p 0 (taken_of x).built other same)),
     )

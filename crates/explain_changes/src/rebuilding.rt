@@ -39,11 +39,7 @@ fn has_site(chosen: &[Site], at: u32) -> bool
 }
 
 /// The variable that is used at a chosen site.
-fn chosen_use<'s, 'a>(
-    chosen: &[Site],
-    scope: &'s Scope<'s, 'a>,
-    e: &'a Expr,
-) -> Option<Taken<'a>>
+fn chosen_use<'s, 'a>(chosen: &[Site], scope: &'s Scope<'s, 'a>, e: &'a Expr) -> Option<Taken<'a>>
     ensures { option_map taken_of result ≡ p.chosen_use (bytes_of chosen.now) (scope_in scope.now) (term_of e.now) }
 {
     if has_site(chosen, begin(e)) {

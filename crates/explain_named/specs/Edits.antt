@@ -33,8 +33,8 @@ opening source n = record {
   at = n.at;
   length = 0;
   text =
-    space (ends_word source n.at)
-    ++ (codes "let " ++ (n.name ++ (codes " = " ++ (n.function ++ (codes "(" ++ (args_text n.args ++ codes ") in "))))));
+      space (ends_word source n.at)
+      ++ (codes "let " ++ (n.name ++ (codes " = " ++ (n.function ++ (codes "(" ++ (args_text n.args ++ codes ") in "))))));
 }
 
 -- the name replaces the call at a place, with a space where it would touch a word

@@ -30,7 +30,13 @@ pub fn named_text<'a>(
     let Some(tokens) = source_tokens(alloc, source)? else {
         return Ok(None);
     };
-    match edits(alloc, source, &tokens, candidate.naming(), &candidate.places)? {
+    match edits(
+        alloc,
+        source,
+        &tokens,
+        candidate.naming(),
+        &candidate.places,
+    )? {
         Some(edits) => Ok(Some(edited(alloc, source, &edits)?)),
         None => Ok(None),
     }

@@ -46,10 +46,7 @@ impl<'a> Candidate<'a> {
 }
 
 /// The calls of a program that may be named, those in inner expressions first.
-pub fn candidates<'a>(
-    alloc: Global,
-    program: &'a Program,
-) -> Result<Vec<Candidate<'a>>, AllocError>
+pub fn candidates<'a>(alloc: Global, program: &'a Program) -> Result<Vec<Candidate<'a>>, AllocError>
     ensures { IfOk result (λ found. All (IsCandidate (program_of program.now)) found.items) }
 {
     let mut found = Vec::new(alloc);

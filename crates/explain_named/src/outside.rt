@@ -38,12 +38,7 @@ fn is_place<'n, 'a>(naming: Naming<'n>, program: &'a Program, e: &'a Expr) -> bo
 }
 
 /// Whether the other expression gives the name to the call, and has it in place of calls behind that.
-fn is_with_name<'n, 'a>(
-    naming: Naming<'n>,
-    program: &'a Program,
-    e: &'a Expr,
-    other: &Expr,
-) -> bool
+fn is_with_name<'n, 'a>(naming: Naming<'n>, program: &'a Program, e: &'a Expr, other: &Expr) -> bool
     requires { IsTrue (n.are_plain (terms_of naming.args.now)) }
     ensures { IsTrue result ↔ Same (m.with_name (program_of program.now) (naming_of naming.entry) (term_of e.now)) (term_of other.now) }
 {

@@ -79,15 +79,15 @@ module _ (R : Relation) (closed : IsClosed R) (W : Type 0) (P : Prog) (C : Chang
     kept (t.Let p x a b) S env k h =
         related_node R closed _ (related_then R closed _ _ _ _ _ _ (placed a S env k (kept a S env k (λ w. (h w).0)))
         (λ u q.
-            let T = s.Bound x.name (kind P S a) ∷ S in
-            let l = known_bound W start x.name (kind P S a) u S env k in
-            placed b T _ l (kept b T _ l (λ w. (h w).1 u q))))
+        let T = s.Bound x.name (kind P S a) ∷ S in
+        let l = known_bound W start x.name (kind P S a) u S env k in
+        placed b T _ l (kept b T _ l (λ w. (h w).1 u q))))
     kept (t.LetPair p x y a b) S env k h =
         related_node R closed _ (related_then R closed _ _ _ _ _ _ (subject a S env (placed a S env k (kept a S env k (λ w. (h w).0))))
         (λ u q. related_pair R closed W u _ _ _ _ (λ w. (h w).1 u q)
         (λ i r is n.
-            let l = known_pair W start C.splits P S env a x.name y.name i r k (subject_is c a env _ (q ∙ ap Some is)) in
-            placed b _ _ l (kept b _ _ l n))))
+        let l = known_pair W start C.splits P S env a x.name y.name i r k (subject_is c a env _ (q ∙ ap Some is)) in
+        placed b _ _ l (kept b _ _ l n))))
     kept (t.If p i a b) S env k h =
         related_node R closed _ (related_then R closed _ _ _ _ _ _ (placed i S env k (kept i S env k (λ w. (h w).0)))
         (λ u q. related_branch R closed W u _ _ _ _ _ _ _ _ (λ w. (h w).1 u q)
@@ -96,29 +96,29 @@ module _ (R : Relation) (closed : IsClosed R) (W : Type 0) (P : Prog) (C : Chang
         related_node R closed _ (related_then R closed _ _ _ _ _ _ (subject i S env (placed i S env k (kept i S env k (λ w. (h w).0))))
         (λ u q. related_list R closed W u _ _ _ _ _ _ _ _ (λ w. (h w).1 u q)
         (λ is n.
-            let l = known_empty W start S env i Nil k (λ w. subject_is c i env _ (q ∙ ap Some (is w))) in
-            placed a _ _ l (kept a _ _ l n))
+        let l = known_empty W start S env i Nil k (λ w. subject_is c i env _ (q ∙ ap Some (is w))) in
+        placed a _ _ l (kept a _ _ l n))
         (λ v r is n.
-            let l = known_list W start P S env i x.name y.name v r k (subject_is c i env _ (q ∙ ap Some is)) in
-            placed b _ _ l (kept b _ _ l n))))
+        let l = known_list W start P S env i x.name y.name v r k (subject_is c i env _ (q ∙ ap Some is)) in
+        placed b _ _ l (kept b _ _ l n))))
     kept (t.MatchTree p i a x y z b) S env k h =
         related_node R closed _ (related_then R closed _ _ _ _ _ _ (subject i S env (placed i S env k (kept i S env k (λ w. (h w).0))))
         (λ u q. related_tree R closed W u _ _ _ _ _ _ _ _ (λ w. (h w).1 u q)
         (λ is n.
-            let l = known_empty W start S env i Leaf k (λ w. subject_is c i env _ (q ∙ ap Some (is w))) in
-            placed a _ _ l (kept a _ _ l n))
+        let l = known_empty W start S env i Leaf k (λ w. subject_is c i env _ (q ∙ ap Some (is w))) in
+        placed a _ _ l (kept a _ _ l n))
         (λ v m r is n.
-            let l = known_tree W start P S env i x.name y.name z.name v m r k (subject_is c i env _ (q ∙ ap Some is)) in
-            placed b _ _ l (kept b _ _ l n))))
+        let l = known_tree W start P S env i x.name y.name z.name v m r k (subject_is c i env _ (q ∙ ap Some is)) in
+        placed b _ _ l (kept b _ _ l n))))
     kept (t.MatchOption p i a x b) S env k h =
         related_node R closed _ (related_then R closed _ _ _ _ _ _ (subject i S env (placed i S env k (kept i S env k (λ w. (h w).0))))
         (λ u q. related_option R closed W u _ _ _ _ _ _ _ _ (λ w. (h w).1 u q)
         (λ is n.
-            let l = known_empty W start S env i Nothing k (λ w. subject_is c i env _ (q ∙ ap Some (is w))) in
-            placed a _ _ l (kept a _ _ l n))
+        let l = known_empty W start S env i Nothing k (λ w. subject_is c i env _ (q ∙ ap Some (is w))) in
+        placed a _ _ l (kept a _ _ l n))
         (λ v is n.
-            let l = known_option W start P S env i x.name v k (subject_is c i env _ (q ∙ ap Some is)) in
-            placed b _ _ l (kept b _ _ l n))))
+        let l = known_option W start P S env i x.name v k (subject_is c i env _ (q ∙ ap Some is)) in
+        placed b _ _ l (kept b _ _ l n))))
     kept (t.Tick p j a) S env k h = related_node R closed _ (closed.costs Value j 0 0 _ _ _ (placed a S env k (kept a S env k h)))
     kept (t.Typed p a A) S env k h = placed a S env k (kept a S env k h)
 

@@ -67,7 +67,9 @@ fn same_inside<'s, 'a, C: Change>(
         Form::LetPair(x, y, a, b) => same_let_pair(change, place, x, y, a, b, other),
         Form::If(a, b, c) => same_if(change, place, a, b, c, other),
         Form::MatchList(a, b, x, y, c) => same_match_list(change, place, a, b, x, y, c, other),
-        Form::MatchTree(a, b, x, y, z, c) => same_match_tree(change, place, a, b, x, y, z, c, other),
+        Form::MatchTree(a, b, x, y, z, c) => same_match_tree(
+            change, place, a, b, x, y, z, c, other,
+        ),
         Form::MatchOption(a, b, x, c) => same_match_option(change, place, a, b, x, c, other),
         Form::Tick(ticks, a) => same_tick(change, place, *ticks, a, other),
         Form::Typed(a, ty) => same_typed(change, place, a, ty, other),
@@ -92,7 +94,8 @@ fn same_all<'s, 'a, C: Change>(
         },
         [arg, rest @ ..] => match others {
             [] => false,
-            [other, more @ ..] => same(change, place, arg, other) && same_all(change, place, rest, more),
+            [other, more @ ..] => same(change, place, arg, other)
+                && same_all(change, place, rest, more),
         },
     }
 }
@@ -159,12 +162,7 @@ fn same_params(params: &[Param], others: &[Param]) -> bool
 }
 
 /// Whether the other function is the rewritten one.
-fn same_function<'a, C: Change>(
-    change: &C,
-    program: &'a Program,
-    fun: &'a Fun,
-    other: &Fun,
-) -> bool
+fn same_function<'a, C: Change>(change: &C, program: &'a Program, fun: &'a Fun, other: &Fun) -> bool
     ensures { IsTrue result ↔ SameFunction (r.rewritten_function (program_of program.now) (C.change change.now) (function_of fun.now))
         (function_of other.now) }
 {

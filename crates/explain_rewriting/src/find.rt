@@ -15,8 +15,8 @@ use crate::begins::begin;
 use crate::find::branches::{
     walk_let, walk_let_pair, walk_match_list, walk_match_option, walk_match_tree,
 };
-use crate::scope::{Scope, variable};
 use crate::finder::Finder;
+use crate::scope::{Scope, variable};
 use crate::site::Site;
 use raml_syntax::{Expr, Form, Fun, Name, Param, Pos, Program};
 use std::alloc::{AllocError, Global};
@@ -96,7 +96,9 @@ fn walk_inside<'s, 'a, F: Finder>(
         }
         Form::Call(_, args) => walk_all(finder, spot, args, found),
         Form::Let(x, bound, rest) => walk_let(finder, spot, x, bound, rest, found),
-        Form::LetPair(x, y, subject, rest) => walk_let_pair(finder, spot, x, y, subject, rest, found),
+        Form::LetPair(x, y, subject, rest) => walk_let_pair(
+            finder, spot, x, y, subject, rest, found,
+        ),
         Form::MatchList(subject, empty, x, y, rest) => {
             walk_match_list(finder, spot, subject, empty, x, y, rest, found)
         }

@@ -11,9 +11,7 @@ mod branches;
 use crate::change::Change;
 use crate::place::Place;
 use crate::scope::variable;
-use crate::sure::branches::{
-    let_surely, list_surely, option_surely, pair_surely, tree_surely,
-};
+use crate::sure::branches::{let_surely, list_surely, option_surely, pair_surely, tree_surely};
 use raml_syntax::{Expr, Form};
 
 /// Whether each evaluation of the expression that gives a value comes to something that is put there.

@@ -25,7 +25,9 @@ pub fn same_arith<'s, 'a, C: Change>(
         (t.Arith 0 op (term_of a.now) (term_of b.now))) (term_of other.now) }
 {
     match &other.form {
-        Form::Arith(other_op, c, d) => { op == *other_op && same(change, place, a, c) && same(change, place, b, d) }
+        Form::Arith(other_op, c, d) => {
+            op == *other_op && same(change, place, a, c) && same(change, place, b, d)
+        }
         _ => false,
     }
 }
@@ -53,7 +55,12 @@ pub fn same_compare<'s, 'a, C: Change>(
 
 /// Whether the other expression is the rewritten negation.
 #[cycle(same)]
-pub fn same_not<'s, 'a, C: Change>(change: &C, place: Place<'s, 'a>, a: &'a Expr, other: &Expr) -> bool
+pub fn same_not<'s, 'a, C: Change>(
+    change: &C,
+    place: Place<'s, 'a>,
+    a: &'a Expr,
+    other: &Expr,
+) -> bool
     ensures { IsTrue result ↔ Same (inside_at (C.change change.now) place.entry (t.Not 0 (term_of a.now))) (term_of other.now) }
 {
     match &other.form {
@@ -64,7 +71,13 @@ pub fn same_not<'s, 'a, C: Change>(change: &C, place: Place<'s, 'a>, a: &'a Expr
 
 /// Whether the other expression is the rewritten pair.
 #[cycle(same)]
-pub fn same_pair<'s, 'a, C: Change>(change: &C, place: Place<'s, 'a>, a: &'a Expr, b: &'a Expr, other: &Expr) -> bool
+pub fn same_pair<'s, 'a, C: Change>(
+    change: &C,
+    place: Place<'s, 'a>,
+    a: &'a Expr,
+    b: &'a Expr,
+    other: &Expr,
+) -> bool
     ensures { IsTrue result ↔ Same (inside_at (C.change change.now) place.entry
         (t.Pair 0 (term_of a.now) (term_of b.now))) (term_of other.now) }
 {
@@ -76,7 +89,13 @@ pub fn same_pair<'s, 'a, C: Change>(change: &C, place: Place<'s, 'a>, a: &'a Exp
 
 /// Whether the other expression is the rewritten list.
 #[cycle(same)]
-pub fn same_cons<'s, 'a, C: Change>(change: &C, place: Place<'s, 'a>, a: &'a Expr, b: &'a Expr, other: &Expr) -> bool
+pub fn same_cons<'s, 'a, C: Change>(
+    change: &C,
+    place: Place<'s, 'a>,
+    a: &'a Expr,
+    b: &'a Expr,
+    other: &Expr,
+) -> bool
     ensures { IsTrue result ↔ Same (inside_at (C.change change.now) place.entry
         (t.Cons 0 (term_of a.now) (term_of b.now))) (term_of other.now) }
 {
@@ -100,14 +119,21 @@ pub fn same_node<'s, 'a, C: Change>(
         (t.Node 0 (term_of a.now) (term_of b.now) (term_of c.now))) (term_of other.now) }
 {
     match &other.form {
-        Form::Node(d, f, g) => { same(change, place, a, d) && same(change, place, b, f) && same(change, place, c, g) }
+        Form::Node(d, f, g) => {
+            same(change, place, a, d) && same(change, place, b, f) && same(change, place, c, g)
+        }
         _ => false,
     }
 }
 
 /// Whether the other expression is the rewritten option.
 #[cycle(same)]
-pub fn same_just<'s, 'a, C: Change>(change: &C, place: Place<'s, 'a>, a: &'a Expr, other: &Expr) -> bool
+pub fn same_just<'s, 'a, C: Change>(
+    change: &C,
+    place: Place<'s, 'a>,
+    a: &'a Expr,
+    other: &Expr,
+) -> bool
     ensures { IsTrue result ↔ Same (inside_at (C.change change.now) place.entry (t.Just 0 (term_of a.now))) (term_of other.now) }
 {
     match &other.form {
@@ -129,7 +155,9 @@ pub fn same_call<'s, 'a, C: Change>(
         (t.Call 0 function.now (terms_of args.now))) (term_of other.now) }
 {
     match &other.form {
-        Form::Call(name, others) => { same_name(function, name) && same_all(change, place, args, others) }
+        Form::Call(name, others) => {
+            same_name(function, name) && same_all(change, place, args, others)
+        }
         _ => false,
     }
 }
@@ -148,14 +176,22 @@ pub fn same_if<'s, 'a, C: Change>(
         (t.If 0 (term_of a.now) (term_of b.now) (term_of c.now))) (term_of other.now) }
 {
     match &other.form {
-        Form::If(d, f, g) => { same(change, place, a, d) && same(change, place, b, f) && same(change, place, c, g) }
+        Form::If(d, f, g) => {
+            same(change, place, a, d) && same(change, place, b, f) && same(change, place, c, g)
+        }
         _ => false,
     }
 }
 
 /// Whether the other expression is the rewritten tick.
 #[cycle(same)]
-pub fn same_tick<'s, 'a, C: Change>(change: &C, place: Place<'s, 'a>, ticks: u32, a: &'a Expr, other: &Expr) -> bool
+pub fn same_tick<'s, 'a, C: Change>(
+    change: &C,
+    place: Place<'s, 'a>,
+    ticks: u32,
+    a: &'a Expr,
+    other: &Expr,
+) -> bool
     ensures { IsTrue result ↔ Same (inside_at (C.change change.now) place.entry (t.Tick 0 ticks (term_of a.now))) (term_of other.now) }
 {
     match &other.form {
@@ -166,7 +202,13 @@ pub fn same_tick<'s, 'a, C: Change>(change: &C, place: Place<'s, 'a>, ticks: u32
 
 /// Whether the other expression is the rewritten one with its type.
 #[cycle(same)]
-pub fn same_typed<'s, 'a, C: Change>(change: &C, place: Place<'s, 'a>, a: &'a Expr, ty: &Ty, other: &Expr) -> bool
+pub fn same_typed<'s, 'a, C: Change>(
+    change: &C,
+    place: Place<'s, 'a>,
+    a: &'a Expr,
+    ty: &Ty,
+    other: &Expr,
+) -> bool
     ensures { IsTrue result ↔ Same (inside_at (C.change change.now) place.entry
         (t.Typed 0 (term_of a.now) (ty_of ty.now))) (term_of other.now) }
 {

@@ -8,9 +8,9 @@ ghost use Rattle.explain_rewriting.specs.Site as i;
 ghost use Rattle.explain_rewriting.specs.Read.{built_of, scope_in, Adds, found_in};
 
 use crate::built::Built;
-use crate::kind::{element, first, kind, second};
 use crate::find::{Spot, walk, walk_subject};
 use crate::finder::Finder;
+use crate::kind::{element, first, kind, second};
 use crate::site::Site;
 use raml_syntax::{Binder, Expr};
 use std::alloc::AllocError;

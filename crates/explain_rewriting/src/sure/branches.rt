@@ -8,8 +8,8 @@ ghost use Rattle.explain_rewriting.specs.Read.{built_of, scope_in, surely_in};
 
 use crate::built::Built;
 use crate::change::Change;
-use crate::place::Place;
 use crate::kind::{element, first, kind, second};
+use crate::place::Place;
 use crate::sure::{subject_surely, surely};
 use raml_syntax::{Binder, Expr};
 
@@ -179,5 +179,6 @@ pub fn option_surely<'s, 'a, C: Change>(
         ..place
     };
     subject_surely(change, place, subject)
-        || empty_surely(change, place, subject, Built::Nothing, empty) && surely(change, inner, rest)
+        || empty_surely(change, place, subject, Built::Nothing, empty)
+            && surely(change, inner, rest)
 }
