@@ -1,11 +1,10 @@
 // Other blocks of tasks: the bound of a function, or the first fault.
-use crate::texts;
-use crate::told::{Other, told_of_other};
+use crate::certificates::texts;
+use crate::certificates::told::{Other, told_of_other};
 use raml_syntax::FunId;
 use std::alloc::Global;
 use std::process::Abort;
 use std::test::Fail;
-use tests_support::programs;
 
 // What is asked, and what is answered. The block is that of the certificate with a part changed.
 struct Case {
@@ -181,7 +180,7 @@ fn others_of_triples_are_told(rt: HostRuntime) -> Result<(), Fail> {
     cases_are_told(
         &rt,
         rt.alloc(),
-        programs::TRIPLES,
+        texts::TRIPLES,
         texts::TRIPLES_CERTIFICATE,
         &OF_TRIPLES,
     )

@@ -1,19 +1,13 @@
-//! The program `tests_expected`, for tests: the digests of all texts of the programs in its folder, and of all
-//! answers of the calls there. With two words, which name a source and a certificate of its analysis, the rows of
-//! each task that was tried.
+//! The program `tests_rows`, for tests: with two words, which name a source and a certificate of its analysis, the
+//! rows of each task that was tried.
 #![tactic(auto)]
 
-mod calls;
-mod cases;
-mod digests;
 mod prices;
 mod read;
 mod refusal;
 mod tasks;
 mod text;
 
-use crate::calls::push_answers;
-use crate::digests::all_digests;
 use crate::read::{read_certificate, read_source};
 use crate::refusal::Refusal;
 use crate::tasks::rows_of;
@@ -30,23 +24,16 @@ fn main(rt: HostRuntime) -> ExitCode {
     }
 }
 
-// Takes the words from the runtime, and prints what they ask for.
+// Takes the words from the runtime, and prints what they ask for. Without words nothing is asked for, as in the gate.
 fn run(rt: &HostRuntime) -> Result<(), Refusal> {
     let args: Vec<String> = env::args(rt)?.skip(1).collect(rt.alloc())?;
     let text = match args.as_slice() {
-        [] => digest_lines(rt)?,
+        [] => String::new(rt.alloc()),
         [source, certificate] => rows_in(rt, source, certificate)?,
         _ => return Err(Refusal::Words),
     };
     rt.print(text.as_str())?;
     Ok(())
-}
-
-// The digests of texts, and then those of answers.
-fn digest_lines(rt: &HostRuntime) -> Result<String, Refusal> {
-    let mut text = all_digests(rt)?;
-    push_answers(rt, &mut text)?;
-    Ok(text)
 }
 
 // The rows of the tasks of a certificate, where these are the names of the files.

@@ -1,10 +1,10 @@
 //! What a call does where files and streams in memory fail.
+use crate::streams::store_of;
 use raml_io::MemSink;
 use raml_top::raml;
 use std::alloc::{AllocError, Global};
 use std::fmt::Write;
 use std::test::Fail;
-use tests_calls::store_of;
 
 /// The reads, the puts on out and the puts on err that fail, each counted from 0.
 #[derive(Clone, Copy)]

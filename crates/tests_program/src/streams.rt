@@ -1,14 +1,9 @@
-//! Files and streams in memory for whole calls of the program, for the tests of the crates above.
-#![tactic(auto)]
-
+//! Files and streams in memory for whole calls of the program.
 use raml_io::{MemSink, MemStore};
 use std::alloc::{AllocError, Global};
 
-/// The words that ask for the types.
-pub const TYPES: [&str; 2] = ["types", "f.raml"];
-
 /// A store that holds two files: `f.raml`, and `d` with data; its attempts with these numbers fail.
-pub fn store_of(
+pub(crate) fn store_of(
     alloc: Global,
     source: &[u8],
     data: &[u8],
@@ -34,6 +29,6 @@ fn store_with(
 }
 
 /// A sink with ample room, whose attempts with these numbers fail.
-pub fn sink_of(alloc: Global, failing: &[u64]) -> Result<MemSink, AllocError> {
+pub(crate) fn sink_of(alloc: Global, failing: &[u64]) -> Result<MemSink, AllocError> {
     MemSink::new(alloc, 100_000, 10, Vec::from_slice(alloc, failing)?)
 }

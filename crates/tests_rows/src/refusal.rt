@@ -11,12 +11,8 @@ pub enum Refusal {
     Source,
     /// It can't be read, is too long, or is no certificate.
     Certificate,
-    /// They can't be read, or are none.
-    Cases,
     /// Of a task that is not of the program, or that has no system.
     Task,
-    /// A call of `raml` did not end well.
-    Text,
     /// The words are no text, or the output could not be written.
     System,
     NoMemory,
@@ -26,12 +22,10 @@ impl Refusal {
     /// A line that tells it.
     pub fn text(self) -> &'static str {
         match self {
-            Refusal::Words => "tests_expected [SOURCE CERTIFICATE]",
+            Refusal::Words => "tests_rows [SOURCE CERTIFICATE]",
             Refusal::Source => "the source can't be read",
             Refusal::Certificate => "the certificate can't be read",
-            Refusal::Cases => "the cases can't be read",
             Refusal::Task => "a task has no rows",
-            Refusal::Text => "a text is not written",
             Refusal::System => "the words are no text, or the output can't be written",
             Refusal::NoMemory => "memory ran out",
         }

@@ -1,5 +1,5 @@
 // Certificates are read, and written back byte for byte.
-use crate::json::texts::{FIRST_VERSION, OF_KINDS, OF_LISTS, OF_LOOPS, OF_NUMBERS};
+use crate::certificates::copied::{FIRST_VERSION, OF_KINDS, OF_LISTS, OF_LOOPS, OF_NUMBERS};
 use cert_json::{JsonFault, read, write};
 use std::alloc::Global;
 use std::process::Abort;

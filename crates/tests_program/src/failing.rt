@@ -1,5 +1,6 @@
 // Reads and puts that fail, each in turn.
 use crate::outcome::{Faults, NO_FAULTS, outcome};
+use std::alloc::Global;
 use std::fmt::Write;
 use std::test::Fail;
 
@@ -215,5 +216,31 @@ fn each_put_of_a_line_fails_in_turn(rt: HostRuntime) -> Result<(), Fail> {
             assert_eq!(rt; found.as_str(), want.as_str(), "at {line}");
         }
     }
+    Ok(())
+}
+
+// Two numbers in so many bytes, with white space behind the first one.
+fn spaced(alloc: Global, length: usize) -> Result<String, Fail> {
+    let mut data = String::from_str(alloc, "(5")?;
+    for place in 6..length {
+        data.push_str(if place % 64 == 0 { "\n" } else { " " })?;
+    }
+    data.push_str(", 0)")?;
+    Ok(data)
+}
+
+// The line of data that is too long is cut off after four bytes.
+#[test]
+fn the_line_of_long_data_is_cut_off(rt: HostRuntime) -> Result<(), Fail> {
+    let alloc = rt.alloc();
+    let source = "fun quot (x : int, y : int) : int = x div y";
+    let data = spaced(alloc, 4_194_305)?;
+    let faults = Faults {
+        lines: &[4],
+        ..NO_FAULTS
+    };
+    let words = ["run", "f.raml", "quot", "d"];
+    let found = outcome(alloc, &words, source, data.as_str(), faults)?;
+    assert_eq!(rt; found.as_str(), "3||raml");
     Ok(())
 }

@@ -45,8 +45,8 @@ pub fn read_certificate(rt: &HostRuntime, name: &str) -> Result<Certificate, Ref
     }
 }
 
-/// The certificate that is written so.
-pub fn certificate_in(alloc: Global, bytes: &[u8]) -> Result<Certificate, Refusal> {
+// The certificate that is written so.
+fn certificate_in(alloc: Global, bytes: &[u8]) -> Result<Certificate, Refusal> {
     match read(alloc, bytes) {
         Ok(certificate) => Ok(certificate),
         Err(_) => Err(Refusal::Certificate),
