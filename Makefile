@@ -32,6 +32,7 @@ install: proved
 	install -m 644 install/_raml "$(ZSH)"
 	install -m 644 install/raml.fish install/explain.fish "$(FISH)"
 	install -m 644 editors/neovim.lua "$(EDITORS)"
+	cp -R editors/vim editors/vscode "$(EDITORS)"
 
 uninstall:
 	rm -f "$(ROOT)/bin/raml" "$(ROOT)/bin/explain" "$(MAN)/raml.1" "$(MAN)/explain.1"

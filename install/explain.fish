@@ -25,6 +25,7 @@ complete -c explain -n __fish_use_subcommand -l version -s V -d 'print the versi
 complete -c explain -n '__fish_seen_subcommand_from check' -l data -x -a '(__explain_functions)' -d 'data of a function'
 complete -c explain -n '__fish_seen_subcommand_from bounds budget why plot profile lsp' -l degree -x -a '1 2 3 4' -d 'degree of the bounds'
 complete -c explain -n '__fish_seen_subcommand_from lsp' -l budget -x -d 'give up an analysis of more pivots'
+complete -c explain -n '__fish_seen_subcommand_from lsp' -l log -r -d 'leave what the editor sent'
 complete -c explain -n '__fish_seen_subcommand_from bounds budget' -l json -d 'objects of JSON'
 complete -c explain -n '__fish_seen_subcommand_from bounds why profile' -l function -x -a '(__explain_functions)' -d 'one function'
 complete -c explain -n '__fish_seen_subcommand_from bounds profile' -l at -x -d 'bounds at these sizes'

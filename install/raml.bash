@@ -68,7 +68,7 @@ _explain() {
       why) words='--function --meter --degree --write --force --help' ;;
       plot) words='--sizes --seed --data --of --degree --meter --output --force --help' ;;
       profile) words='--function --degree --at --help' ;;
-      lsp) words='--degree --budget --help' ;;
+      lsp) words='--degree --budget --log --help' ;;
     esac
   elif [[ ${COMP_WORDS[1]}:$(_raml_operands) == plot:1 ]]; then
     words=$(_raml_functions)

@@ -134,7 +134,8 @@ profile_app =
     with_rule (with_rule (with_rule profile_file (option_rule (codes "function"))) (option_rule (codes "degree"))) (option_rule (codes "at"))
 
 abbrev pub lsp_app : App
-lsp_app = with_rule (with_rule (new_app (codes "lsp")) (option_rule (codes "degree"))) (option_rule (codes "budget"))
+lsp_app =
+    with_rule (with_rule (with_rule (new_app (codes "lsp")) (option_rule (codes "degree"))) (option_rule (codes "budget"))) (option_rule (codes "log"))
 
 -- the program before it has commands
 abbrev pub bare : App

@@ -23,10 +23,16 @@ pub fn command<'a>(alloc: Global) -> Result<Command<'a>, AllocError>
         "D",
         "Tries the degrees up to D, 1 to 4; 4 where none is told",
     ))?;
-    with_degree.arg(option(
+    let with_budget = with_degree.arg(option(
         alloc,
         "budget",
         "PIVOTS",
         "Gives up the analysis of a degree that takes more pivots; 20000 where none are told",
+    ))?;
+    with_budget.arg(option(
+        alloc,
+        "log",
+        "LOG",
+        "Leaves what the editor sent in the file LOG, over one that is there",
     ))
 }

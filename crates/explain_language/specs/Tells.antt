@@ -2,8 +2,9 @@
 use Rattle.std.specs.Prelude.{ℕ}
 use Rattle.lsp_language.specs.Telling.{Telling}
 use Rattle.explain_counts.specs.Hovers.{IsToldAt}
+use Rattle.explain_scopes.specs.Read.{IsNamedAt}
 use Rattle.explain_language.specs.Told.{IsTold}
 
--- of a text what is told of a source, and at a byte of it how often its line is run
+-- of a text what is told of a source; and at a byte of it how often its line is run, and what is named there
 abbrev pub told_by : ℕ → ℕ → Telling
-told_by most pivots = record { insight = IsTold most pivots; hover = IsToldAt most }
+told_by most pivots = record { insight = IsTold most pivots; hover = IsToldAt most; named = IsNamedAt }

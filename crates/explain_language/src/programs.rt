@@ -1,7 +1,8 @@
 // The language of programs.
 use crate::source::source_insight;
 use explain_counts::line_hover;
-use lsp_language::{Hover, Insight, Language};
+use explain_scopes::named_at;
+use lsp_language::{Hover, Insight, Language, Named};
 use std::alloc::{AllocError, Global};
 
 /// The language of programs, whose bounds are those of degrees up to one, as far as analyses go with so many pivots.
@@ -26,5 +27,9 @@ impl Language for Programs {
 
     fn hover(&self, alloc: Global, text: &str, offset: usize) -> Result<Option<Hover>, AllocError> {
         line_hover(alloc, text.as_bytes(), self.degree.min(4), offset)
+    }
+
+    fn named(&self, alloc: Global, text: &str, offset: usize) -> Result<Option<Named>, AllocError> {
+        named_at(alloc, text.as_bytes(), offset)
     }
 }

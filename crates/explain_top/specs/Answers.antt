@@ -1,5 +1,5 @@
 -- How calls of `explain` end, and what they write.
-use Rattle.std.specs.Prelude.{◌≡◌, ◌⊎◌, ◌++◌, ◌||◌, ℕ, zero, suc, min, Bool, false, cond, List, [], ◌∷◌, Option, Some, None, codes, string_bytes}
+use Rattle.std.specs.Prelude.{◌≡◌, ◌⊎◌, ◌++◌, ◌||◌, ℕ, zero, suc, min, Bool, true, false, cond, List, [], ◌∷◌, Option, Some, None, codes, string_bytes}
 use Rattle.std.specs.Borrow.{Bor}
 use Rattle.std.specs.Str.{bytes_eq}
 use Rattle.raml_syntax.specs.Tree.{Text}
@@ -253,12 +253,29 @@ said_of session.NoMemory = codes "explain: out of memory\n"
 said_of session.TooLong = codes "explain: the session is too long\n"
 said_of cause = []
 
+-- the status of a session, and where that is 0 that of its log
+abbrev pub or_of_log : Status → Status → Status
+or_of_log s.Done left = left
+or_of_log status left = status
+
+-- What a session ends with is told, and what was heard is left as a file; or memory ran out.
+abbrev pub IsLogLeft : Shelf → Text → SessionEnd → Sink → Status → Type 0
+IsLogLeft shelf log end err status =
+    (LacksMemory err status × KeepsFiles shelf)
+    ⊎ ((heard : Text) × (left : Status) × (part : Text) × IsTextLeft shelf log true heard left part
+    × (status ≡ or_of_log (status_of_session end) left) × Writes (said_of end ++ part) err)
+
+-- what is told of a session's end, and left of what was heard where a file for that is named
+abbrev pub EndsSession : Shelf → Option (Bor Text) → SessionEnd → Sink → Status → Type 0
+EndsSession shelf None end err status = KeepsFiles shelf × (status ≡ status_of_session end) × Writes (said_of end) err
+EndsSession shelf (Some log) end err status = IsLogLeft shelf log.now end err status
+
 -- An editor is served: what it is told of a text is the text's fault, or the bounds of its functions at degrees up to the one that is asked
 -- for and why they have none, as far as analyses go with so many pivots; and of a line how often it is run.
-abbrev pub IsEditorServed : LspWords → Streams → Streams → Sink → Status → Type 0
-IsEditorServed words start last err status =
-    (end : SessionEnd) × IsServed (language.told_by (min words.degree 4) words.pivots) start last end × (status ≡ status_of_session end)
-    × Writes (said_of end) err
+abbrev pub IsEditorServed : LspWords → Shelf → Streams → Streams → Sink → Status → Type 0
+IsEditorServed words shelf start last err status =
+    (end : SessionEnd) × IsServed (language.told_by (min words.degree 4) words.pivots) start last end
+    × EndsSession shelf words.log end err status
 
 -- ---- requests
 
@@ -287,7 +304,7 @@ IsAnswer store shelf editor (Why words) columns out err status = IsWhyTold store
 IsAnswer store shelf editor (Plot words) columns out err status = IsPlotTold store shelf words out err status
 IsAnswer store shelf editor (Profile words) columns out err status = IsProfileTold store words out err status × KeepsFiles shelf
 IsAnswer store shelf editor (Lsp words) columns out err status =
-    IsEditorServed words (streams_of editor.before out.old) (streams_of editor.after out.new) err status × KeepsFiles shelf
+    IsEditorServed words shelf (streams_of editor.before out.old) (streams_of editor.after out.new) err status
 
 -- ---- whole calls
 

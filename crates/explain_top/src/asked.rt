@@ -78,7 +78,7 @@ pub fn answer<S: Store, W: Shelf, I: Read, P: Progress, O: Sink, E: Sink>(
         Request::Why(words) => why(alloc, words, store, shelf, progress, out, err),
         Request::Plot(words) => plot(alloc, words, store, shelf, out, err),
         Request::Profile(words) => profile(alloc, words, store, out, err),
-        Request::Lsp(words) => serve_editor(alloc, *words, input, out, err),
+        Request::Lsp(words) => serve_editor(alloc, *words, shelf, input, out, err),
     }
 }
 

@@ -1,6 +1,6 @@
 // How a call ends.
 ghost use Rattle.std.specs.Prelude.{◌≡◌};
-ghost use Rattle.explain_top.specs.Answers.{code_of, status_of, status_for, status_at, status_of_budget, status_of_session, status_of_verification};
+ghost use Rattle.explain_top.specs.Answers.{code_of, or_of_log, status_of, status_for, status_at, status_of_budget, status_of_session, status_of_verification};
 
 use explain_budget::BudgetEnd;
 use explain_calls::End;
@@ -40,6 +40,16 @@ impl Status {
             Status::NotAnalysed => 3,
             Status::WriteFault => 12,
             Status::NoMemory => 70,
+        }
+    }
+
+    /// This one, where something is wrong, and else that of a log that was to be left.
+    pub(crate) fn or_of_log(self, left: Status) -> Status
+        ensures { result ≡ or_of_log self left }
+    {
+        match self {
+            Status::Done => left,
+            _ => self,
         }
     }
 }

@@ -191,6 +191,7 @@ pivots_or_many (Some word) = pivots_in word
 pub record AreLsp (rows : List Row) (asked : LspWords) : Type 0 where
   pub degree : degree_or_4 (first_of (codes "degree") rows) ≡ Some asked.degree
   pub pivots : pivots_or_many (first_of (codes "budget") rows) ≡ Some asked.pivots
+  pub log : first_of (codes "log") rows ≡ lent asked.log
 
 abbrev pub MeansLsp : List Row → Request → Type 0
 MeansLsp rows (Lsp asked) = AreLsp rows asked

@@ -70,7 +70,7 @@ pub enum Request<'a> {
     /// Say how often lines of a program are run at most by a call of a function.
     Profile(ProfileWords<'a>),
     /// Serve an editor.
-    Lsp(LspWords),
+    Lsp(LspWords<'a>),
 }
 
 /// Why words give no request.

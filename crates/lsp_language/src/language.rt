@@ -3,6 +3,7 @@ ghost use Rattle.std.specs.Prelude.{IfOk};
 ghost use Rattle.lsp_language.specs.Telling.{Telling};
 
 use crate::insight::{Hover, Insight};
+use crate::names::Named;
 use std::alloc::{AllocError, Global};
 
 /// A language, which knows its texts.
@@ -18,4 +19,8 @@ pub trait Language {
     /// it may take longer than what is known at once. It takes every text and every place.
     fn hover(&self, alloc: Global, text: &str, offset: usize) -> Result<Option<Hover>, AllocError>
         ensures { IfOk result ((tells self.now).hover text.now offset) };
+
+    /// What is named at this byte of the text, or just before it. It takes every text and every place.
+    fn named(&self, alloc: Global, text: &str, offset: usize) -> Result<Option<Named>, AllocError>
+        ensures { IfOk result ((tells self.now).named text.now offset) };
 }

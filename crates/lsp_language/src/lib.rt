@@ -3,8 +3,10 @@
 
 mod insight;
 mod language;
+mod names;
 mod span;
 
 pub use insight::{Action, Diagnostic, Edit, Hint, Hover, Insight, Lens, Related, Severity};
 pub use language::Language;
+pub use names::Named;
 pub use span::Span;

@@ -1,7 +1,7 @@
 -- Members of JSON.
-use Rattle.std.specs.Prelude.{ℕ, ℤ, List, [], ◌∷◌, codes, Option, None, Some, option_map, option_and_then}
+use Rattle.std.specs.Prelude.{ℕ, ℤ, Bool, List, [], ◌∷◌, codes, Option, None, Some, option_map, option_and_then}
 use Rattle.serde_json.specs.Data.{Data, Items, no_items, item}
-use Rattle.serde_json.specs.Find.{get, as_str, as_number, as_u64, as_i64, as_array}
+use Rattle.serde_json.specs.Find.{get, as_str, as_bool, as_number, as_u64, as_i64, as_array}
 use Rattle.lsp_positions.specs.declared.position.Position.{Position}
 use Rattle.lsp_documents.specs.declared.change.Range.{Range}
 
@@ -24,6 +24,9 @@ natural_in key d = option_and_then as_u64 (option_and_then as_number (get key d)
 -- a number of 64 bits with a sign
 abbrev pub integer_in : List ℕ → Data → Option ℤ
 integer_in key d = option_and_then as_i64 (option_and_then as_number (get key d))
+
+abbrev pub truth_in : List ℕ → Data → Option Bool
+truth_in key d = option_and_then as_bool (get key d)
 
 abbrev pub list_in : List ℕ → Data → Option (List Data)
 list_in key d = option_map listed (option_and_then as_array (get key d))

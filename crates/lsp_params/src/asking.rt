@@ -1,9 +1,9 @@
 // What requests on a text ask.
 ghost use Rattle.std.specs.Prelude.{◌≡◌, option_map};
 ghost use Rattle.serde_json.specs.View.{view};
-ghost use Rattle.lsp_params.specs.Asks.{uri_of, ask_of};
+ghost use Rattle.lsp_params.specs.Asks.{uri_of, ask_of, declares, names_ask_of};
 
-use crate::json::{position_in, range_in, text_in};
+use crate::json::{position_in, range_in, text_in, truth_in};
 use lsp_documents::Range;
 use lsp_positions::Position;
 use serde_json::Value;
@@ -15,6 +15,15 @@ pub enum Subject {
     Lenses,
     Hints,
     Actions,
+    Names(NamesSubject),
+}
+
+/// Of what requests on the names of a text are.
+#[derive(Clone, Copy, Debug, PartialEq, Eq)]
+pub enum NamesSubject {
+    Definition,
+    References,
+    Highlights,
 }
 
 /// What is asked of a text.
@@ -28,6 +37,19 @@ pub enum Ask {
     Hints(Range),
     /// Changes that meet this range.
     Actions(Range),
+    /// What its names are.
+    Names(NamesAsk),
+}
+
+/// What is asked of the names of a text.
+#[derive(Clone, Copy, Debug, PartialEq, Eq)]
+pub enum NamesAsk {
+    /// Where the name at a position is bound.
+    Definition(Position),
+    /// Where the name at a position is used, and where it is bound, if that is wanted too.
+    References(Position, bool),
+    /// The same places, all of one text.
+    Highlights(Position),
 }
 
 /// What a request asks, and `None` where its params do not say it.
@@ -39,7 +61,28 @@ pub fn ask_of(subject: Subject, params: &Value) -> Option<Ask>
         Subject::Lenses => Some(Ask::Lenses),
         Subject::Hints => Some(Ask::Hints(range_in(params, "range")?)),
         Subject::Actions => Some(Ask::Actions(range_in(params, "range")?)),
+        Subject::Names(subject) => Some(Ask::Names(names_ask_of(subject, params)?)),
     }
+}
+
+fn names_ask_of(subject: NamesSubject, params: &Value) -> Option<NamesAsk>
+    ensures { result ≡ names_ask_of subject (view params.now) }
+{
+    match subject {
+        NamesSubject::Definition => Some(NamesAsk::Definition(position_in(params, "position")?)),
+        NamesSubject::References => Some(NamesAsk::References(
+            position_in(params, "position")?,
+            declares(params)?,
+        )),
+        NamesSubject::Highlights => Some(NamesAsk::Highlights(position_in(params, "position")?)),
+    }
+}
+
+// Whether the place of the binding is wanted, too.
+fn declares(params: &Value) -> Option<bool>
+    ensures { result ≡ declares (view params.now) }
+{
+    truth_in(params.get("context")?, "includeDeclaration")
 }
 
 /// The document that params name.

@@ -22,6 +22,13 @@ pub fn integer_in(value: &Value, key: &str) -> Option<i64>
     value.get(key)?.as_i64()
 }
 
+/// The truth of a member.
+pub fn truth_in(value: &Value, key: &str) -> Option<bool>
+    ensures { result ≡ spec.truth_in key.now (view value.now) }
+{
+    value.get(key)?.as_bool()
+}
+
 /// The list of a member.
 pub fn list_in<'a>(value: &'a Value, key: &str) -> Option<&'a [Value]>
     ensures { option_map (λ items. map view items.now) result ≡ spec.list_in key.now (view value.now) }

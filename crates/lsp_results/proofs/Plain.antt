@@ -16,14 +16,18 @@ use Rattle.lsp_language.specs.declared.insight.Hover.{Hover}
 use Rattle.lsp_language.specs.declared.insight.Action.{Action}
 use Rattle.lsp_language.specs.declared.insight.Diagnostic.{Diagnostic}
 use Rattle.lsp_language.specs.declared.insight.Insight.{Insight}
+use Rattle.lsp_language.specs.declared.names.Named.{Named}
 use Rattle.lsp_params.specs.declared.asking.Ask.{Ask}
 use Rattle.lsp_params.specs.declared.asking.Ask.TheVariants as a
+use Rattle.lsp_params.specs.declared.asking.NamesAsk.{NamesAsk}
+use Rattle.lsp_params.specs.declared.asking.NamesAsk.TheVariants as n
 use Rattle.lsp_results.specs.Places.{list_json}
 use Rattle.lsp_results.specs.Hovers.{hover_or_null}
 use Rattle.lsp_results.specs.Marks.{lens_json, hint_json, is_between}
 use Rattle.lsp_results.specs.Actions.{meets, edit_json, edits_json, action_json}
 use Rattle.lsp_results.specs.Diagnostics.{related_json, all_related_json, diagnostic_members, with_code, code_of, diagnostic_json, diagnostics_json, published_json}
 use Rattle.lsp_results.specs.Capabilities.{initialized_json}
+use Rattle.lsp_results.specs.Names.{IsOfNames, definition_json, highlight_json, highlights_json, location_of, places_of, references_json}
 use Rattle.lsp_results.specs.Results.{IsResult}
 
 pub plain_by : (r : Result Value AllocError) (d : Data) → has_float d ≡ false → IfOk r (λ v. view v ≡ d) → IfOk r (λ v. has_float (view v) ≡ false)
@@ -41,6 +45,23 @@ hover_plain encoding text (Some hover) = refl
 action_plain : (encoding : Encoding) (text uri : List ℕ) (action : Action) → has_float (action_json encoding text uri action) ≡ false
 action_plain encoding text uri action = rw (list_plain (edit_json encoding text) (λ edit. refl) action.edits.items) refl
 
+places_plain : (encoding : Encoding) (text uri : List ℕ) (declared : Bool) (named : Option Named) → has_float (references_json encoding text uri declared named) ≡ false
+places_plain encoding text uri declared None = refl
+places_plain encoding text uri declared (Some named) = list_plain (location_of encoding text uri) (λ span. refl) (places_of declared named)
+
+highlights_plain : (encoding : Encoding) (text : List ℕ) (named : Option Named) → has_float (highlights_json encoding text named) ≡ false
+highlights_plain encoding text None = refl
+highlights_plain encoding text (Some named) = list_plain (highlight_json encoding text 2) (λ span. refl) named.uses.items
+
+definition_plain : (encoding : Encoding) (text uri : List ℕ) (named : Option Named) → has_float (definition_json encoding text uri named) ≡ false
+definition_plain encoding text uri None = refl
+definition_plain encoding text uri (Some named) = refl
+
+names_plain : (tells : Telling) (encoding : Encoding) (text uri : List ℕ) (asked : NamesAsk) (d : Data) → IsOfNames tells encoding text uri asked d → has_float d ≡ false
+names_plain tells encoding text uri (n.Definition position) d is = ap has_float is.2 ∙ definition_plain encoding text uri is.0
+names_plain tells encoding text uri (n.References position declared) d is = ap has_float is.2 ∙ places_plain encoding text uri declared is.0
+names_plain tells encoding text uri (n.Highlights position) d is = ap has_float is.2 ∙ highlights_plain encoding text is.0
+
 result_plain : (tells : Telling) (encoding : Encoding) (text uri : List ℕ) (insight : Insight) (ask : Ask) (d : Data) → IsResult tells encoding text uri insight ask d →
     has_float d ≡ false
 result_plain tells encoding text uri insight (a.Hover position) d is = ap has_float is.is ∙ hover_plain encoding text is.hover
@@ -48,6 +69,7 @@ result_plain tells encoding text uri insight a.Lenses d is = ap has_float is ∙
 result_plain tells encoding text uri insight (a.Hints range) d is =
     ap has_float is ∙ list_plain (hint_json encoding text) (λ hint. refl)
     (filter (is_between (offset_of encoding text range.start) (offset_of encoding text range.end)) insight.hints.items)
+result_plain tells encoding text uri insight (a.Names asked) d is = names_plain tells encoding text uri asked d is
 result_plain tells encoding text uri insight (a.Actions range) d is =
     ap has_float is ∙ list_plain (action_json encoding text uri) (action_plain encoding text uri)
     (filter (meets (offset_of encoding text range.start) (offset_of encoding text range.end)) insight.actions.items)

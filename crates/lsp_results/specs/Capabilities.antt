@@ -19,8 +19,10 @@ kinds_json = object (member (codes "codeActionKinds") (list_json (string (codes 
 abbrev pub capabilities_json : Encoding → Data
 capabilities_json encoding =
     object (member (codes "codeActionProvider") kinds_json (member (codes "codeLensProvider") (object no_members)
+    (member (codes "definitionProvider") (boolean true) (member (codes "documentHighlightProvider") (boolean true)
     (member (codes "hoverProvider") (boolean true) (member (codes "inlayHintProvider") (boolean true)
-    (member (codes "positionEncoding") (string (encoding_name encoding)) (member (codes "textDocumentSync") sync_json no_members))))))
+    (member (codes "positionEncoding") (string (encoding_name encoding)) (member (codes "referencesProvider") (boolean true)
+    (member (codes "textDocumentSync") sync_json no_members)))))))))
 
 abbrev pub server_json : Data
 server_json = object (member (codes "name") (string (codes "explain")) no_members)

@@ -3,6 +3,7 @@ pub mod Hovers
 pub mod Marks
 pub mod Actions
 pub mod Diagnostics
+pub mod Names
 pub mod Capabilities
 pub mod Results
 pub mod Example

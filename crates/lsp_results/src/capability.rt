@@ -1,6 +1,7 @@
 // What the server tells of itself.
-ghost use Rattle.std.specs.Prelude.{◌≡◌, false, IfOk};
-ghost use Rattle.serde_json.specs.View.{view};
+ghost use Rattle.std.specs.Prelude.{◌≡◌, true, false, IfOk, OnOk};
+ghost use Rattle.serde_json.specs.Data.{boolean, put as with_member};
+ghost use Rattle.serde_json.specs.View.{view, members_view};
 ghost use Rattle.serde_json.specs.Written.{has_float};
 ghost use Rattle.lsp_results.specs.Capabilities.{encoding_name, sync_json, kinds_json, capabilities_json, server_json, initialized_json};
 
@@ -41,16 +42,25 @@ fn capabilities_value(alloc: Global, encoding: Encoding) -> Result<Value, AllocE
         "codeLensProvider",
         Value::Object(Map::new(alloc)),
     )?;
-    put(&mut members, alloc, "hoverProvider", Value::Bool(true))?;
-    put(&mut members, alloc, "inlayHintProvider", Value::Bool(true))?;
+    put_true(&mut members, alloc, "definitionProvider")?;
+    put_true(&mut members, alloc, "documentHighlightProvider")?;
+    put_true(&mut members, alloc, "hoverProvider")?;
+    put_true(&mut members, alloc, "inlayHintProvider")?;
     put_text(
         &mut members,
         alloc,
         "positionEncoding",
         encoding_name(encoding),
     )?;
+    put_true(&mut members, alloc, "referencesProvider")?;
     put(&mut members, alloc, "textDocumentSync", sync_value(alloc)?)?;
     Ok(Value::Object(members))
+}
+
+fn put_true(members: &mut Map<String, Value>, alloc: Global, key: &str) -> Result<(), AllocError>
+    ensures { OnOk result (members_view members.new.entries ≡ with_member key.now (boolean true) (members_view members.old.entries)) }
+{
+    put(members, alloc, key, Value::Bool(true))
 }
 
 fn kinds_value(alloc: Global) -> Result<Value, AllocError>

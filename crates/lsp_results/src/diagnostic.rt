@@ -202,8 +202,8 @@ fn related_value(
     Ok(Value::Object(members))
 }
 
-// A part of a document.
-fn location_value(alloc: Global, range: Value, uri: &str) -> Result<Value, AllocError>
+/// A part of a document.
+pub fn location_value(alloc: Global, range: Value, uri: &str) -> Result<Value, AllocError>
     ensures { IfOk result (λ value. view value ≡ location_json (view range) uri.now) }
 {
     json!(in alloc; {"range": range, "uri": uri})

@@ -7,6 +7,7 @@ mod diagnostic;
 mod hover;
 pub mod laws;
 mod mark;
+mod names;
 mod place;
 mod result;
 

@@ -7,6 +7,7 @@ ghost use Rattle.lsp_results.specs.Results.{IsResult};
 use crate::action::actions_value;
 use crate::hover::hover_at;
 use crate::mark::{hints_value, lenses_value};
+use crate::names::names_value;
 use lsp_documents::Document;
 use lsp_language::{Insight, Language};
 use lsp_params::Ask;
@@ -15,7 +16,7 @@ use serde_json::Value;
 use std::alloc::{AllocError, Global};
 
 /// What is answered where this is asked of a document, by what is known of it, and by what the language tells at a place where that has
-/// no hover.
+/// no hover, and of the names of its text.
 pub fn result_value<L: Language>(
     alloc: Global,
     language: &L,
@@ -58,5 +59,6 @@ fn value_of<L: Language>(
             let to = document.offset(encoding, range.end);
             actions_value(alloc, encoding, document, uri, from, to, &insight.actions)
         }
+        Ask::Names(asked) => names_value(alloc, language, encoding, document, uri, asked),
     }
 }

@@ -4,13 +4,21 @@ use Rattle.std.specs.Str.{bytes_eq}
 use Rattle.serde_json.specs.Data.{Data}
 use Rattle.lsp_positions.specs.declared.position.Encoding.{Encoding}
 use Rattle.lsp_params.specs.Agreed.{agreed}
-use Rattle.lsp_params.specs.declared.asking.Subject.TheVariants.{Hover, Lenses, Hints, Actions}
+use Rattle.lsp_params.specs.declared.asking.Subject.TheVariants.{Hover, Lenses, Hints, Actions, Names}
+use Rattle.lsp_params.specs.declared.asking.NamesSubject.TheVariants.{Definition, References, Highlights}
 use Rattle.lsp_server.specs.declared.life.Life.{Life}
 use Rattle.lsp_server.specs.declared.life.Life.TheVariants.{Fresh, Running, ShutDown}
 use Rattle.lsp_server.specs.declared.method.Method.{Method}
 use Rattle.lsp_server.specs.declared.method.Method.TheVariants.{Initialize, Shutdown, About, Unknown}
 use Rattle.lsp_server.specs.declared.method.Notice.{Notice}
 use Rattle.lsp_server.specs.declared.method.Notice.TheVariants.{Open, Change, Close, Exit, Other}
+
+-- the requests on names that are served
+abbrev pub names_method_of : List ℕ → Method
+names_method_of name =
+    cond (bytes_eq name (codes "textDocument/definition")) (About (Names Definition))
+    (cond (bytes_eq name (codes "textDocument/references")) (About (Names References))
+    (cond (bytes_eq name (codes "textDocument/documentHighlight")) (About (Names Highlights)) Unknown))
 
 -- the requests that are served
 abbrev pub method_of : List ℕ → Method
@@ -20,7 +28,7 @@ method_of name =
     (cond (bytes_eq name (codes "textDocument/hover")) (About Hover)
     (cond (bytes_eq name (codes "textDocument/codeLens")) (About Lenses)
     (cond (bytes_eq name (codes "textDocument/inlayHint")) (About Hints)
-    (cond (bytes_eq name (codes "textDocument/codeAction")) (About Actions) Unknown)))))
+    (cond (bytes_eq name (codes "textDocument/codeAction")) (About Actions) (names_method_of name))))))
 
 -- the notifications that are heard
 abbrev pub notice_of : List ℕ → Notice

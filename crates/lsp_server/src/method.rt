@@ -1,8 +1,8 @@
 // The methods of messages.
 ghost use Rattle.std.specs.Prelude.{◌≡◌};
-ghost use Rattle.lsp_server.specs.Life.{method_of, notice_of};
+ghost use Rattle.lsp_server.specs.Life.{method_of, names_method_of, notice_of};
 
-use lsp_params::Subject;
+use lsp_params::{NamesSubject, Subject};
 
 /// A request that is served.
 #[derive(Clone, Copy, Debug, PartialEq, Eq)]
@@ -40,6 +40,21 @@ pub fn method_of(name: &str) -> Method
         Method::About(Subject::Hints)
     } else if name == "textDocument/codeAction" {
         Method::About(Subject::Actions)
+    } else {
+        names_method_of(name)
+    }
+}
+
+/// The request on names of this name.
+fn names_method_of(name: &str) -> Method
+    ensures { result ≡ names_method_of name.now }
+{
+    if name == "textDocument/definition" {
+        Method::About(Subject::Names(NamesSubject::Definition))
+    } else if name == "textDocument/references" {
+        Method::About(Subject::Names(NamesSubject::References))
+    } else if name == "textDocument/documentHighlight" {
+        Method::About(Subject::Names(NamesSubject::Highlights))
     } else {
         Method::Unknown
     }

@@ -3,7 +3,9 @@
 #![tactic(auto)]
 
 mod end;
+mod heard;
 mod session;
 
 pub use end::SessionEnd;
+pub use heard::Heard;
 pub use session::serve;

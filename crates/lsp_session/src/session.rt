@@ -5,6 +5,7 @@ ghost use Rattle.lsp_session.specs.Deeds.{started};
 ghost use Rattle.lsp_session.specs.Sessions.{IsServed, KeepsOn, EndsIn, IsFetched, StopsBy, moment_of, streams_of};
 
 use crate::end::SessionEnd;
+use crate::heard::Heard;
 use lsp_frames::{FrameReader, Reading};
 use lsp_language::Language;
 use lsp_server::{Flow, Server};
@@ -16,11 +17,12 @@ use std::io::{ErrorKind, Read};
 const PIECE: usize = 16_384;
 
 /// Serves an editor: takes each message that it sends, and writes what is sent for it to `out`. Where no whole message is read,
-/// it publishes diagnostics before it reads on.
+/// it publishes diagnostics before it reads on. What is read is kept in `heard`, where it keeps anything.
 pub fn serve<C: Read, L: Language, O: Sink>(
     alloc: Global,
     client: &mut C,
     language: &L,
+    heard: &mut Heard,
     out: &mut O,
 ) -> SessionEnd
     ensures { IsServed (L.tells language.now) (streams_of (C.remaining client.old) (O.written out.old))
@@ -28,7 +30,7 @@ pub fn serve<C: Read, L: Language, O: Sink>(
 {
     let mut session = Session::new(alloc);
     for _ in 0..u64::MAX {
-        if let Err(end) = session.step(alloc, client, language, out) {
+        if let Err(end) = session.step(alloc, client, language, heard, out) {
             return end;
         }
     }
@@ -59,6 +61,7 @@ impl Session {
         alloc: Global,
         client: &mut C,
         language: &L,
+        heard: &mut Heard,
         out: &mut O,
     ) -> Result<(), SessionEnd>
         ensures on { OnOk result (KeepsOn (L.tells language.now)
@@ -70,7 +73,7 @@ impl Session {
     {
         match self.reader.read(alloc)? {
             Reading::Message(content) => self.take(alloc, language, &content, out),
-            Reading::More => self.wait(alloc, client, language, out),
+            Reading::More => self.wait(alloc, client, language, heard, out),
             Reading::Faulty(fault) => Err(SessionEnd::Faulty(fault)),
         }
     }
@@ -106,6 +109,7 @@ impl Session {
         alloc: Global,
         client: &mut C,
         language: &L,
+        heard: &mut Heard,
         out: &mut O,
     ) -> Result<(), SessionEnd>
         ensures on { front self.old.reader ≡ More → OnOk result (KeepsOn (L.tells language.now)
@@ -118,7 +122,7 @@ impl Session {
         if self.publish(alloc, language, out)? {
             return Ok(());
         }
-        self.fetch(client)
+        self.fetch(client, heard)
     }
 
     // Publishes the diagnostics of a document, if there is one for which they are not published yet.
@@ -142,7 +146,7 @@ impl Session {
     }
 
     // Reads what comes next.
-    fn fetch<C: Read>(&mut self, client: &mut C) -> Result<(), SessionEnd>
+    fn fetch<C: Read>(&mut self, client: &mut C, heard: &mut Heard) -> Result<(), SessionEnd>
         ensures fetched { OnOk result (IsFetched (C.remaining client.old) (C.remaining client.new) self.old.reader self.new.reader) }
         ensures stops { IfErr result (StopsBy (C.remaining client.old) (C.remaining client.new) self.old.server) }
         ensures kept { self.new.server ≡ self.old.server }
@@ -150,7 +154,10 @@ impl Session {
         let mut buffer = [0u8; PIECE];
         match client.read(&mut buffer) {
             Ok(0) => Err(SessionEnd::Closed(self.server.status())),
-            Ok(count) => Ok(self.reader.push(&buffer[..count])?),
+            Ok(count) => {
+                heard.hear(&buffer[..count]);
+                Ok(self.reader.push(&buffer[..count])?)
+            }
             Err(error) if error.kind() == ErrorKind::Interrupted => Ok(()),
             Err(_) => Err(SessionEnd::ReadFault),
         }

@@ -1,4 +1,5 @@
 // Whole calls over files and streams in memory that fail, and the number of each status.
+use crate::streams::{sink_of, store_of};
 use bound_infer::InferFault;
 use constraint_gen::What;
 use cost_free::{Meter, Task, TaskKind};
@@ -9,7 +10,6 @@ use raml_syntax::{FunId, Pos};
 use raml_top::{CertAnswer, OverflowAt, SourceFault, Status, Which, raml};
 use simple_types::TypeFault;
 use std::test::Fail;
-use tests_calls::{sink_of, store_of};
 use value_text::DataFault;
 
 const FIRST: &[u8] = b"fun main (x : int) : int = tick 3 in x";

@@ -5,4 +5,10 @@
 #[cfg(test)]
 mod calls;
 #[cfg(test)]
+mod failing;
+#[cfg(test)]
 mod lines;
+#[cfg(test)]
+mod outcome;
+#[cfg(test)]
+mod streams;

@@ -15,11 +15,13 @@ use std::alloc::Global;
 
 /// What an editor is served with.
 #[derive(Clone, Copy, Debug)]
-pub struct LspWords {
+pub struct LspWords<'a> {
     /// The greatest degree to try, 1 to 4.
     pub degree: u8,
     /// The analysis of a degree that takes more pivots is given up.
     pub pivots: usize,
+    /// The file that is left with what the editor sent.
+    pub log: Option<&'a str>,
 }
 
 /// What `lsp` asks for with what is found for its arguments.
@@ -33,12 +35,16 @@ pub fn asked<'a>(alloc: Global, found: &ArgMatches<'a>) -> Result<Request<'a>, W
     }
 }
 
-fn words_of(found: &ArgMatches<'_>) -> Result<LspWords, Mistake>
+fn words_of<'a>(found: &ArgMatches<'a>) -> Result<LspWords<'a>, Mistake>
     ensures { Tells (AreLsp (rows_of (found_of found.now))) result }
 {
     let degree = degree_or_4(text_of(found, "degree"))?;
     let pivots = pivots_or_many(text_of(found, "budget"))?;
-    Ok(LspWords { degree, pivots })
+    Ok(LspWords {
+        degree,
+        pivots,
+        log: text_of(found, "log"),
+    })
 }
 
 // How many pivots an analysis may take where none are told.

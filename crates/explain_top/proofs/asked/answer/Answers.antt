@@ -27,6 +27,4 @@ pub returns-in-Plot-clause-done : goal.returns-in-Plot-clause-done
 returns-in-Plot-clause-done g c = rw c.in-Plot.is c.plot.ensures.told
 
 pub returns-in-Lsp-clause-done : goal.returns-in-Lsp-clause-done
-returns-in-Lsp-clause-done g c =
-    let faults = g.W.Shelf.faults c.args.shelf.now in
-    rw c.in-Lsp.is (c.serve_editor.ensures, untouched faults faults (g.W.Shelf.holds c.args.shelf.now))
+returns-in-Lsp-clause-done g c = rw c.in-Lsp.is c.serve_editor.ensures

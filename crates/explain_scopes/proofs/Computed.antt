@@ -1,0 +1,14 @@
+-- The examples compute.
+use Rattle.std.proofs.Common.{refl}
+use Rattle.explain_scopes.specs.Example.{Examples}
+
+pub examples_hold : Examples
+examples_hold = record {
+  places = refl;
+  all = refl;
+  behind = refl;
+  hidden = refl;
+  called = refl;
+  nothing = refl;
+  levels = refl;
+}

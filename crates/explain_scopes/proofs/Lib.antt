@@ -1,0 +1,4 @@
+mod Computed
+mod Ends
+mod Meaning
+mod Stepping

@@ -1,4 +1,0 @@
-// Certificates as JSON.
-mod copies;
-mod faults;
-mod texts;
