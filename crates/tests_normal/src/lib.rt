@@ -11,3 +11,5 @@ mod more_programs;
 mod programs;
 #[cfg(test)]
 mod shown;
+#[cfg(test)]
+mod texts;

@@ -1,7 +1,7 @@
 // More programs with the normal forms of their functions, one a line. Variables are shown by the order in which
 // they come first, and the nodes of a form behind it.
 
-use tests_support::programs;
+use crate::texts;
 
 pub const MERGE_SORT: (&str, &str) = (
     "\
@@ -61,7 +61,7 @@ control [v0, v1]: Let(v2, Let(v3, Number(16)#1, Let(v4, Let(v5, Number(2)#1, Let
 );
 
 pub const PING_PONG: (&str, &str) = (
-    programs::PING_PONG,
+    texts::PING_PONG,
     "\
 even [v0]: CaseList(v0, Truth(true)#1, v1, v2, Drop(v1, Call 1[v2]#2))#3
 odd [v0]: CaseList(v0, Truth(false)#1, v1, v2, Drop(v1, Call 0[v2]#2))#3
@@ -72,7 +72,7 @@ rally [v0]: Share(v0, v1, v2, Let(v3, Call 0[v1]#2, If(v3, Call 2[v2]#2, Call 3[
 );
 
 pub const QUICKSORT: (&str, &str) = (
-    programs::QUICKSORT,
+    texts::QUICKSORT,
     "\
 append [v0, v1]: CaseList(v0, Var v1#1, v2, v3, Let(v4, Call 0[v3, v1]#3, Cons(v2, v4))#2)#3
 part [v0, v1]: CaseList(v1, Drop(v0, Let(v2, Nil#1, Let(v3, Nil#1, Pair(v2, v3)))#1), v4, v5, Share(v0, v6, v7, Let(v8, Call 1[v6, v5]#3, Split(v8, v9, v10, Tick(3, Share(v4, v11, v12, Let(v13, Compare(Less, v11, v7)#3, If(v13, Let(v14, Cons(v12, v9)#3, Pair(v14, v10))#2, Let(v15, Cons(v12, v10)#3, Pair(v9, v15))#2))#1))#1))#1))#3
@@ -127,7 +127,7 @@ decode [v0]: CaseList(v0, Nil#1, v1, v2, Split(v1, v3, v4, Let(v5, Call 3[v2]#2,
 );
 
 pub const SAFE_HEAD_OPTION: (&str, &str) = (
-    programs::ENDS,
+    texts::ENDS,
     "\
 head [v0]: CaseList(v0, None#1, v1, v2, Drop(v2, Some(v1)#2))#3
 last [v0]: CaseList(v0, None#1, v1, v2, Share(v2, v3, v4, CaseList(v3, Drop(v4, Some(v1)#2), v5, v6, Drop(v1, Drop(v5, Drop(v6, Tick(1, Call 1[v4]#2)#1))))#2))#3
@@ -137,7 +137,7 @@ sum_ends [v0]: Share(v0, v1, v2, Let(v3, Call 0[v1]#2, CaseOption(v3, Drop(v2, N
 );
 
 pub const SEARCH_TREE: (&str, &str) = (
-    programs::SEARCH_TREE,
+    texts::SEARCH_TREE,
     "\
 add [v0, v1]: CaseTree(v1, Let(v2, Leaf#1, Let(v3, Leaf#1, Node(v0, v2, v3)))#2, v4, v5, v6, Tick(1, Share(v0, v7, v8, Share(v4, v9, v10, Let(v11, Compare(Equal, v7, v9)#3, If(v11, Drop(v8, Node(v10, v5, v6)#4), Share(v8, v12, v13, Share(v10, v14, v15, Let(v16, Compare(Less, v12, v14)#3, If(v16, Let(v17, Call 0[v13, v5]#3, Node(v15, v17, v6))#3, Let(v18, Call 0[v13, v6]#3, Node(v15, v5, v18))#3))#1))))#1)))#1)#3
 build [v0, v1]: CaseList(v0, Var v1#1, v2, v3, Let(v4, Call 0[v2, v1]#3, Call 1[v3, v4])#2)#3
@@ -194,7 +194,7 @@ main [v0]: Share(v0, v1, v2, Let(v3, Let(v4, Leaf#1, Let(v5, Number(5)#1, Call 0
 );
 
 pub const SHARING: (&str, &str) = (
-    programs::SHARING,
+    texts::SHARING,
     "\
 length [v0]: CaseList(v0, Number(0)#1, v1, v2, Drop(v1, Tick(1, Let(v3, Number(1)#1, Let(v4, Call 0[v2]#2, Arith(Add, v3, v4)))#1)#1))#3
 sum [v0]: CaseList(v0, Number(0)#1, v1, v2, Tick(1, Let(v3, Call 1[v2]#2, Arith(Add, v1, v3))#2)#1)#3
@@ -268,7 +268,7 @@ run_block [v0, v1]: CaseList(v0, Var v1#1, v2, v3, Split(v2, v4, v5, Split(v5, v
 );
 
 pub const TRIPLES: (&str, &str) = (
-    programs::TRIPLES,
+    texts::TRIPLES,
     "\
 with_two [v0, v1, v2, v3]: CaseList(v2, Drop(v0, Drop(v1, Var v3#1)), v4, v5, Tick(1, Share(v0, v6, v7, Share(v1, v8, v9, Let(v10, Let(v11, Pair(v8, v4)#3, Pair(v6, v11))#2, Let(v12, Call 0[v7, v9, v5, v3]#5, Cons(v10, v12)))#1)))#1)#3
 with_one [v0, v1, v2]: CaseList(v1, Drop(v0, Var v2#1), v3, v4, Share(v0, v5, v6, Share(v4, v7, v8, Let(v9, Call 1[v5, v7, v2]#4, Call 0[v6, v3, v8, v9])#4)))#3
@@ -308,7 +308,7 @@ through [v0]: Share(v0, v1, v2, Let(v3, Let(v4, Let(v5, Nil#1, Let(v6, Nil#1, Pa
 );
 
 pub const ZIP_UNZIP: (&str, &str) = (
-    programs::ZIPS,
+    texts::ZIPS,
     "\
 zip [v0, v1]: CaseList(v0, Drop(v1, Nil#1), v2, v3, CaseList(v1, Drop(v2, Drop(v3, Nil#1)), v4, v5, Let(v6, Pair(v2, v4)#3, Let(v7, Call 0[v3, v5]#3, Cons(v6, v7)))#1)#2)#3
 unzip [v0]: CaseList(v0, Let(v1, Nil#1, Let(v2, Nil#1, Pair(v1, v2)))#1, v3, v4, Split(v3, v5, v6, Let(v7, Call 1[v4]#2, Split(v7, v8, v9, Tick(1, Let(v10, Cons(v5, v8)#3, Let(v11, Cons(v6, v9)#3, Pair(v10, v11)))#1)#1))#1)#2)#3

@@ -1,7 +1,7 @@
 // Programs with the normal forms of their functions, one a line. Variables are shown by the order in which
 // they come first, and the nodes of a form behind it.
 
-use tests_support::programs;
+use crate::texts;
 
 pub const ACKERMANN: (&str, &str) = (
     "\
@@ -25,7 +25,7 @@ ack_list [v0, v1]: Tick(1, Share(v0, v2, v3, CaseList(v2, Drop(v3, Let(v4, Numbe
 );
 
 pub const APPEND: (&str, &str) = (
-    programs::APPENDS,
+    texts::APPENDS,
     "\
 append [v0, v1]: CaseList(v0, Var v1#1, v2, v3, Let(v4, Call 0[v3, v1]#3, Cons(v2, v4))#2)#3
 leftmost [v0, v1, v2]: Let(v3, Call 0[v0, v1]#3, Call 0[v3, v2])#3
