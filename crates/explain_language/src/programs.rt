@@ -1,8 +1,8 @@
 // The language of programs.
 use crate::source::source_insight;
 use explain_counts::line_hover;
-use explain_scopes::named_at;
-use lsp_language::{Hover, Insight, Language, Named};
+use explain_scopes::{named_at, renamed_at, symbols_of};
+use lsp_language::{Hover, Insight, Language, Named, Renaming, Symbol};
 use std::alloc::{AllocError, Global};
 
 /// The language of programs, whose bounds are those of degrees up to one, as far as analyses go with so many pivots.
@@ -31,5 +31,19 @@ impl Language for Programs {
 
     fn named(&self, alloc: Global, text: &str, offset: usize) -> Result<Option<Named>, AllocError> {
         named_at(alloc, text.as_bytes(), offset)
+    }
+
+    fn symbols(&self, alloc: Global, text: &str) -> Result<Vec<Symbol>, AllocError> {
+        symbols_of(alloc, text)
+    }
+
+    fn renamed(
+        &self,
+        alloc: Global,
+        text: &str,
+        offset: usize,
+        name: &str,
+    ) -> Result<Renaming, AllocError> {
+        renamed_at(alloc, text.as_bytes(), offset, name)
     }
 }

@@ -11,4 +11,12 @@ examples_hold = record {
   called = refl;
   nothing = refl;
   levels = refl;
+  taken = refl;
+  free = refl;
+  called_so = refl;
+  parts = refl;
+  one_name = refl;
+  no_name = refl;
+  outline = refl;
+  nameless = refl;
 }

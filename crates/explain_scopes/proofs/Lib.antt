@@ -1,4 +1,5 @@
 mod Computed
 mod Ends
 mod Meaning
+mod Renamed
 mod Stepping

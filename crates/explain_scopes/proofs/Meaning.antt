@@ -1,5 +1,5 @@
 -- The meaning of expressions by the levels of their variables.
-use Rattle.std.proofs.Common.{◌≡◌, ◌∙◌, ◌<◌, ℕ, zero, suc, List, [], ◌∷◌, length, map, Bool, true, false, cond, Option, Some, None, refl, sym, ap, subst, arith}
+use Rattle.std.proofs.Common.{◌≡◌, ◌∙◌, ◌<◌, ℕ, suc, List, [], ◌∷◌, length, map, Bool, true, false, cond, Option, Some, None, refl, sym, ap, arith}
 use Rattle.std.specs.Prelude.{nat_eq}
 use Rattle.std.specs.Str.{bytes_eq}
 use Rattle.std.proofs.lemmas.Slice.Eq.{bytes_eq-Decides}
@@ -7,13 +7,13 @@ use Rattle.std.proofs.lemmas.Option.{same_Some}
 use Rattle.std.proofs.lemmas.Bool.{eq-eqb, eqb-true}
 use Rattle.raml_syntax.specs.Tree as t
 use Rattle.raml_syntax.specs.Tree.{Text, Bound, Parameter, Function}
-use Rattle.raml_syntax.specs.Value.{Value, Number, Truth, Both, Empty, Cons, Node, Just}
+use Rattle.raml_syntax.specs.Value.{Value, Both, Cons, Node, Just}
 use Rattle.raml_syntax.specs.Eval as e
 use Rattle.raml_syntax.specs.Eval.{Env, Calls, look, walk, walk_all, bind_all, names_of, node, and_then, done, new_cell, cut, costs, compare, branch, negation, pair_case, list_case, tree_case, option_case}
 use Rattle.explain_scopes.specs.Scopes.{Scope, bound_to, bind_parameters, parameter}
-use Rattle.explain_scopes.specs.Levels.{level_of, at_level, level_name, by_level, leveled, leveled_all, env_by_level, names_in_scope, names_in_env, BindingsAreMeant}
+use Rattle.explain_scopes.specs.Levels.{level_of, at_level, level_name, leveled, leveled_all, env_by_level, names_in_scope, names_in_env, BindingsAreMeant}
 
-bytes_same : (x : Text) → bytes_eq x x ≡ true
+pub bytes_same : (x : Text) → bytes_eq x x ≡ true
 bytes_same x = (bytes_eq-Decides x x).1 refl
 
 -- levels are below the number of variables
@@ -98,7 +98,7 @@ module _ (rename : Text → Text) (call other : Calls) (calls : (f : Text) (vs :
     walks_all s env t.None same = refl
     walks_all s env (t.More a rest) same = λ i. and_then (walks s env a same i) (λ v. and_then (walks_all s env rest same i) (λ vs. done (v ∷ vs)))
 
-levels : (x : Text) (s : Scope) → bound_to x s ≡ at_level s (level_of x s)
+pub levels : (x : Text) (s : Scope) → bound_to x s ≡ at_level s (level_of x s)
 levels x [] = refl
 levels x (b ∷ s) = by (levels x s) (bytes_eq x b.name)
   where

@@ -1,14 +1,19 @@
 -- A small program, worked out by hand.
-use Rattle.std.specs.Prelude.{◌≡◌, ℕ, List, [], ◌∷◌, Some, None, codes}
+use Rattle.std.specs.Prelude.{◌≡◌, ℕ, List, [], ◌∷◌, Some, None, codes, true, false}
 use Rattle.raml_syntax.specs.Tree as t
 use Rattle.raml_syntax.specs.Tree.{Text, Bound, Function, Integer}
 use Rattle.parse_table.specs.Tokens.{Token, Name, Key}
 use Rattle.parse_table.specs.declared.token.Sign.TheVariants as s
 use Rattle.explain_scopes.specs.declared.occurrence.Kind.TheVariants as k
-use Rattle.explain_scopes.specs.Scopes.{Occurrence, Kind, occurrences, parameter}
+use Rattle.explain_scopes.specs.Scopes.{Occurrence, Kind, occurrences}
 use Rattle.explain_scopes.specs.Sources.{function_places}
 use Rattle.explain_scopes.specs.Levels.{leveled}
-use Rattle.explain_scopes.specs.Named.{named, part}
+use Rattle.explain_scopes.specs.Named.{Named, named, part}
+use Rattle.explain_scopes.specs.Renaming.{Parts, in_use, is_one_name, parts_of}
+use Rattle.explain_scopes.specs.Outline.{symbols}
+use Rattle.raml_lex.specs.declared.token.Token as l
+use Rattle.raml_lex.specs.declared.token.TokenKind.{TokenKind}
+use Rattle.raml_lex.specs.declared.token.TokenKind.TheVariants.{Keyword, Name as Word, Symbol as Mark}
 
 abbrev f : Text
 f = codes "f"
@@ -40,6 +45,18 @@ names =
     name 4 f k.Function 4 ∷ name 7 x k.Variable 7 ∷ name 28 x k.Variable 28 ∷ name 32 f k.Function 4 ∷ name 34 x k.Variable 7
     ∷ name 40 x k.Variable 28 ∷ []
 
+-- what the parameter names
+abbrev of_parameter : Named
+of_parameter = record { binding = part 7 1; uses = part 34 1 ∷ [] }
+
+-- a piece of this kind, from one byte on and before another
+abbrev piece : TokenKind → ℕ → ℕ → l.Token
+piece kind from to = record { at = record { 0 = from }; end = record { 0 = to }; kind = kind }
+
+-- `fun f ( fun g`
+abbrev heads : List l.Token
+heads = piece Keyword 0 3 ∷ piece Word 4 5 ∷ piece Mark 6 7 ∷ piece Keyword 8 11 ∷ piece Word 12 13 ∷ []
+
 pub record Examples : Type 0 where
   pub places : function_places tokens ≡ 4 ∷ []
   pub all : occurrences (4 ∷ []) (function ∷ []) ≡ names
@@ -52,3 +69,14 @@ pub record Examples : Type 0 where
   -- the parameter is the oldest variable, and the other one hides it in the last part
   pub levels : leveled (λ g. g) (bound 7 x ∷ []) body
       ≡ t.Let 0 (bound 0 (1 ∷ [])) (t.Call 0 f (t.More (t.Var 0 (0 ∷ [])) t.None)) (t.Var 0 (1 ∷ []))
+  -- the parameter may not have the name of the other variable, and may have that of the function
+  pub taken : in_use names (name 7 x k.Variable 7) x ≡ true
+  pub free : in_use names (name 7 x k.Variable 7) f ≡ false
+  pub called_so : in_use names (name 4 f k.Function 4) f ≡ true
+  pub parts : parts_of of_parameter ≡ Parts (part 7 1 ∷ part 34 1 ∷ [])
+  pub one_name : is_one_name (codes "f") (piece Word 0 1 ∷ []) ≡ true
+  pub no_name : is_one_name (codes "f ") (piece Word 0 1 ∷ []) ≡ false
+  -- a function ends before the next one, and one without a name behind it is none
+  pub outline : symbols (codes "fun f ( fun g") heads
+      ≡ record { name = codes "f"; whole = part 0 7; binding = part 4 1 } ∷ record { name = codes "g"; whole = part 8 5; binding = part 12 1 } ∷ []
+  pub nameless : symbols (codes "fun (") (piece Keyword 0 3 ∷ piece Mark 4 5 ∷ []) ≡ []

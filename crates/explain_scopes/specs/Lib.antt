@@ -3,4 +3,7 @@ pub mod Scopes
 pub mod Levels
 pub mod Sources
 pub mod Named
+pub mod Outline
+pub mod Renaming
+pub mod Renamed
 pub mod Read

@@ -1,5 +1,5 @@
 -- What the code's names are as plain data.
-use Rattle.std.specs.Prelude.{ℕ, ◌≡◌, ◌<◌, ◌^◌, length, Option, Some, None, Vec, List, [], ◌∷◌, map}
+use Rattle.std.specs.Prelude.{ℕ, ◌≡◌, All, Option, Some, None, Vec, List, [], ◌∷◌, map, string_bytes}
 use Rattle.std.specs.Option.{option_map}
 use Rattle.std.specs.Borrow.{Bor}
 use Rattle.raml_syntax.specs.Tree as t
@@ -9,6 +9,14 @@ use Rattle.explain_scopes.specs.declared.occurrence.Bound.{Bound}
 use Rattle.explain_scopes.specs.declared.occurrence.Occurrence.{Occurrence}
 use Rattle.explain_scopes.specs.Named as n
 use Rattle.explain_scopes.specs.Sources.{HasNoNames, OfNames}
+use Rattle.explain_scopes.specs.Outline as o
+use Rattle.explain_scopes.specs.Renaming.{Outcome, Parts, Refused, IsRenaming}
+use Rattle.raml_lex.specs.Lexing.{Spelled, StandsIn}
+use Rattle.raml_lex.specs.declared.token.Token as l
+use Rattle.lsp_language.specs.declared.names.Symbol.{Symbol}
+use Rattle.lsp_language.specs.declared.names.Renaming.{Renaming}
+use Rattle.lsp_language.specs.declared.names.Renaming.TheVariants as w
+use Rattle.lsp_language.specs.declared.names.Refusal.TheVariants as r
 use Rattle.lsp_language.specs.declared.names.Named.{Named}
 use Rattle.lsp_language.specs.declared.span.Span.{Span}
 use Rattle.explain_scopes.specs.declared.source.Source.{Source}
@@ -21,7 +29,7 @@ use Rattle.raml_parse.specs.Spelling.{HasTokens, Spells}
 use Rattle.raml_syntax.specs.Read.{program_of}
 use Rattle.raml_syntax.specs.Tree.{Text, Prog}
 use Rattle.explain_scopes.specs.declared.scope.Scope.{Scope}
-use Rattle.explain_scopes.specs.declared.scope.Scope.TheOpen as o
+use Rattle.explain_scopes.specs.declared.scope.Scope.TheOpen as folded
 use Rattle.explain_scopes.specs.declared.scope.Scope.TheFolds.{fold-Scope}
 
 abbrev pub bound_of : Bound → t.Bound
@@ -42,14 +50,19 @@ occurrence_of o = record { at = o.at.0; name = o.name.now; kind = o.kind; bindin
 abbrev pub occurrences_of : List Occurrence → List s.Occurrence
 occurrences_of = map occurrence_of
 
-abbrev pub scope_step : o.Scope-F s.Scope → s.Scope
-scope_step o.Empty = []
-scope_step (o.More newest outer) = bound_of newest ∷ outer.now
+abbrev pub scope_step : folded.Scope-F s.Scope → s.Scope
+scope_step folded.Empty = []
+scope_step (folded.More newest outer) = bound_of newest ∷ outer.now
 
 abbrev pub scope_of : Scope → s.Scope
 scope_of = fold-Scope s.Scope scope_step
 
 -- the tokens of a text; none where it has none
+abbrev pub AreLexed : Text → Option (Vec l.Token Global) → Type 0
+AreLexed text (Some found) = Spelled text found.items × All (StandsIn text) found.items
+AreLexed text None = (ts : List l.Token) → Spelled text ts → ⊥
+
+-- the same as the grammar sees them
 abbrev pub AreTokens : Text → Option (Vec Piece Global) → Type 0
 AreTokens text (Some found) = HasTokens text (pieces found.items)
 AreTokens text None = (ts : List Token) → HasTokens text ts → ⊥
@@ -84,3 +97,22 @@ occurrence_in name = occurrence_of name.now
 abbrev pub IsNamedAt : Text → ℕ → Option Named → Type 0
 IsNamedAt source offset named =
     OfNames source (λ os. option_map plain_named named ≡ n.named offset os) (option_map plain_named named ≡ None)
+
+abbrev pub plain_symbol : Symbol → o.Symbol
+plain_symbol symbol = record { name = string_bytes symbol.name; whole = plain_part symbol.whole; binding = plain_part symbol.binding }
+
+abbrev pub plain_symbols : List Symbol → List o.Symbol
+plain_symbols = map plain_symbol
+
+-- the functions of the text
+abbrev pub IsOutline : Text → List Symbol → Type 0
+IsOutline text found = o.AreOutline text (plain_symbols found)
+
+abbrev pub plain_outcome : Renaming → Outcome
+plain_outcome (w.Parts parts) = Parts (plain_parts parts.items)
+plain_outcome (w.Refused why) = Refused why
+
+-- what comes of this name for what is named at the byte
+abbrev pub IsRenamedAt : Text → ℕ → Text → Renaming → Type 0
+IsRenamedAt source offset x outcome =
+    OfNames source (λ os. IsRenaming os offset x (plain_outcome outcome)) (plain_outcome outcome ≡ Refused r.Nothing)

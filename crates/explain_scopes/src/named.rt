@@ -1,5 +1,5 @@
 // What a name names, wherever it stands.
-ghost use Rattle.std.specs.Prelude.{◌≡◌, length, IfOk, option_map};
+ghost use Rattle.std.specs.Prelude.{◌≡◌, length, IfOk, option_map, Some};
 ghost use Rattle.explain_scopes.specs.Named as n;
 ghost use Rattle.explain_scopes.specs.Read.{IsNamedAt, IsReadOf, occurrence_of, occurrence_in, occurrences_of, plain_named, plain_part, plain_parts};
 
@@ -63,24 +63,35 @@ fn uses(alloc: Global, found: &[Occurrence<'_>], binding: Pos) -> Result<Vec<Spa
     Ok(parts)
 }
 
+/// What a name names; none where it is not bound.
+pub fn named_as(
+    alloc: Global,
+    found: &[Occurrence<'_>],
+    name: &Occurrence<'_>,
+) -> Result<Option<Named>, AllocError>
+    ensures { IfOk result (λ named. option_map plain_named named ≡ n.named_by (occurrences_of found.now) (Some (occurrence_of name.now))) }
+{
+    let Some(place) = name.binding else {
+        return Ok(None);
+    };
+    Ok(Some(Named {
+        binding: bytes_of(place, name.name.text()),
+        uses: uses(alloc, found, place)?,
+    }))
+}
+
 /// What the name names that the byte meets.
-pub fn named_among(
+fn named_among(
     alloc: Global,
     found: &[Occurrence<'_>],
     offset: usize,
 ) -> Result<Option<Named>, AllocError>
     ensures { IfOk result (λ named. option_map plain_named named ≡ n.named offset (occurrences_of found.now)) }
 {
-    let Some(met) = met_at(found, offset) else {
-        return Ok(None);
-    };
-    let Some(place) = met.binding else {
-        return Ok(None);
-    };
-    Ok(Some(Named {
-        binding: bytes_of(place, met.name.text()),
-        uses: uses(alloc, found, place)?,
-    }))
+    match met_at(found, offset) {
+        Some(met) => named_as(alloc, found, met),
+        None => Ok(None),
+    }
 }
 
 /// What is named at a byte of what is read.

@@ -3,19 +3,15 @@ ghost use Rattle.std.specs.Prelude.{◌<◌, ◌^◌, length, IfOk};
 ghost use Rattle.raml_syntax.specs.Read.{program_of};
 ghost use Rattle.raml_parse.specs.Spelling.{Spells};
 ghost use Rattle.explain_scopes.specs.Sources.{AreNamesOf};
-ghost use Rattle.explain_scopes.specs.Read.{AreTokens, IsProgram, IsRead, IsReadOf, occurrences_of};
+ghost use Rattle.explain_scopes.specs.Read.{IsProgram, IsRead, IsReadOf, occurrences_of};
 
+use crate::lexed::{MOST_BYTES, tokens_of};
 use crate::occurrence::Occurrence;
 use crate::program::occurrences;
-use parse_table::pieces::pieces_of;
 use parse_table::token::Piece;
-use raml_lex::{LexFault, tokens};
 use raml_parse::{ParseFault, parse};
 use raml_syntax::Program;
 use std::alloc::{AllocError, Global};
-
-/// How many bytes a source has at most.
-const MOST_BYTES: usize = 0x7fff_ffff;
 
 /// A source with its program and its tokens.
 #[derive(Drop)]
@@ -23,31 +19,6 @@ pub struct Source<'a> {
     pub bytes: &'a [u8],
     pub program: Program,
     pub tokens: Vec<Piece<'a>>,
-}
-
-/// The tokens of a text; none where it has none.
-fn tokens_in<'a>(alloc: Global, text: &'a str) -> Result<Option<Vec<Piece<'a>>>, AllocError>
-    requires { length text.now < 2 ^ 31 }
-    ensures { IfOk result (AreTokens text.now) }
-{
-    match tokens(alloc, text) {
-        Ok(tokens) => Ok(Some(pieces_of(alloc, text, &tokens)?)),
-        Err(LexFault::NoMemory) => Err(AllocError),
-        Err(LexFault::BadChar { .. }) => Ok(None),
-        Err(LexFault::NumberTooWide { .. }) => Ok(None),
-        Err(LexFault::OpenComment { .. }) => Ok(None),
-    }
-}
-
-/// The same of bytes that may be no text.
-fn tokens_of<'a>(alloc: Global, bytes: &'a [u8]) -> Result<Option<Vec<Piece<'a>>>, AllocError>
-    requires { length bytes.now < 2 ^ 31 }
-    ensures { IfOk result (AreTokens bytes.now) }
-{
-    match std::str::from_utf8(bytes) {
-        Ok(text) => tokens_in(alloc, text),
-        Err(_) => Ok(None),
-    }
 }
 
 /// The program of a source; none where it spells none.

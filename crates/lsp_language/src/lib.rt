@@ -8,5 +8,5 @@ mod span;
 
 pub use insight::{Action, Diagnostic, Edit, Hint, Hover, Insight, Lens, Related, Severity};
 pub use language::Language;
-pub use names::Named;
+pub use names::{Named, Refusal, Renaming, Symbol};
 pub use span::Span;

@@ -6,6 +6,10 @@ pub examples_hold : Examples
 examples_hold = record {
   hover = refl;
   lenses = refl;
+  folds = refl;
+  prepare = refl;
+  new_name = refl;
+  no_name = refl;
   no_document = refl;
   no_range = refl;
   opening = refl;

@@ -1,7 +1,8 @@
 // What requests on a text ask.
 ghost use Rattle.std.specs.Prelude.{◌≡◌, option_map};
 ghost use Rattle.serde_json.specs.View.{view};
-ghost use Rattle.lsp_params.specs.Asks.{uri_of, ask_of, declares, names_ask_of};
+ghost use Rattle.lsp_params.specs.Asks.{uri_of, ask_of, declares, names_ask_of, new_name_of};
+ghost use Rattle.lsp_params.specs.Read.{new_name_view};
 
 use crate::json::{position_in, range_in, text_in, truth_in};
 use lsp_documents::Range;
@@ -24,6 +25,9 @@ pub enum NamesSubject {
     Definition,
     References,
     Highlights,
+    Symbols,
+    Folds,
+    Prepare,
 }
 
 /// What is asked of a text.
@@ -50,6 +54,20 @@ pub enum NamesAsk {
     References(Position, bool),
     /// The same places, all of one text.
     Highlights(Position),
+    /// What an outline shows.
+    Symbols,
+    /// The lines that can be folded away.
+    Folds,
+    /// Where the name at a position stands, which can get another one.
+    Prepare(Position),
+}
+
+/// Another name that is wanted for what is named at a position.
+#[derive(Clone, Copy, Debug)]
+pub struct NewName<'a> {
+    pub uri: &'a str,
+    pub position: Position,
+    pub name: &'a str,
 }
 
 /// What a request asks, and `None` where its params do not say it.
@@ -75,6 +93,9 @@ fn names_ask_of(subject: NamesSubject, params: &Value) -> Option<NamesAsk>
             declares(params)?,
         )),
         NamesSubject::Highlights => Some(NamesAsk::Highlights(position_in(params, "position")?)),
+        NamesSubject::Symbols => Some(NamesAsk::Symbols),
+        NamesSubject::Folds => Some(NamesAsk::Folds),
+        NamesSubject::Prepare => Some(NamesAsk::Prepare(position_in(params, "position")?)),
     }
 }
 
@@ -83,6 +104,20 @@ fn declares(params: &Value) -> Option<bool>
     ensures { result ≡ declares (view params.now) }
 {
     truth_in(params.get("context")?, "includeDeclaration")
+}
+
+/// The name that is wanted, and `None` where the params do not say it.
+pub fn new_name_of(params: &Value) -> Option<NewName<'_>>
+    ensures { option_map new_name_view result ≡ new_name_of (view params.now) }
+{
+    let uri = uri_of(params)?;
+    let position = position_in(params, "position")?;
+    let name = text_in(params, "newName")?;
+    Some(NewName {
+        uri,
+        position,
+        name,
+    })
 }
 
 /// The document that params name.

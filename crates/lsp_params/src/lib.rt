@@ -7,6 +7,6 @@ mod json;
 pub mod laws;
 mod opening;
 
-pub use asking::{Ask, NamesAsk, NamesSubject, Subject, ask_of, uri_of};
+pub use asking::{Ask, NamesAsk, NamesSubject, NewName, Subject, ask_of, new_name_of, uri_of};
 pub use encoding::agreed;
 pub use opening::{Opening, changes_of, opening_of, versioned_of};

@@ -13,4 +13,6 @@ examples_hold = record {
   no_version = refl;
   no_object = refl;
   nothing_said = refl;
+  failed = refl;
+  in_use = refl;
 }

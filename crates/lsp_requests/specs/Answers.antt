@@ -5,7 +5,9 @@ use Rattle.serde_json.specs.Find.{of_integer}
 use Rattle.lsp_requests.specs.Kinds.{Id, Number, Text}
 use Rattle.lsp_requests.specs.declared.code.ErrorCode.{ErrorCode}
 use Rattle.lsp_requests.specs.declared.code.ErrorCode.TheVariants.{ParseError, InvalidRequest, MethodNotFound, InvalidParams, InternalError}
-use Rattle.lsp_requests.specs.declared.code.ErrorCode.TheVariants.{NotInitialized, Cancelled, ContentModified}
+use Rattle.lsp_requests.specs.declared.code.ErrorCode.TheVariants.{NotInitialized, Cancelled, ContentModified, RequestFailed}
+use Rattle.lsp_requests.specs.declared.code.Failure.{Failure}
+use Rattle.lsp_requests.specs.declared.code.Failure.TheVariants.{NothingNamed, NoName, NameInUse}
 
 -- the numbers of JSON-RPC and of the Language Server Protocol
 abbrev pub code_of : ErrorCode → ℤ
@@ -17,6 +19,13 @@ code_of InternalError = negsuc 32602
 code_of NotInitialized = negsuc 32001
 code_of Cancelled = negsuc 32799
 code_of ContentModified = negsuc 32800
+code_of (RequestFailed failure) = negsuc 32802
+
+-- what is said where a text does not allow it
+abbrev pub failure_message : Failure → List ℕ
+failure_message NothingNamed = codes "Nothing that can get another name stands there"
+failure_message NoName = codes "This is no name of the language"
+failure_message NameInUse = codes "This name is in use there"
 
 -- what they say
 abbrev pub message_of : ErrorCode → List ℕ
@@ -28,6 +37,7 @@ message_of InternalError = codes "Internal error"
 message_of NotInitialized = codes "Server not initialized"
 message_of Cancelled = codes "Request cancelled"
 message_of ContentModified = codes "Content modified"
+message_of (RequestFailed failure) = failure_message failure
 
 abbrev pub id_json : Id → Data
 id_json (Number n) = number (of_integer n)

@@ -1,9 +1,10 @@
 -- Messages, worked out by hand.
-use Rattle.std.specs.Prelude.{◌≡◌, ℕ, List, codes, pos, Some}
+use Rattle.std.specs.Prelude.{◌≡◌, ℕ, List, codes, pos, negsuc, Some}
 use Rattle.serde_json.specs.Data.{Data, Members, null, number, unsigned, string, object, member, no_members}
 use Rattle.lsp_requests.specs.Kinds.{Request, Notification, Response, Malformed, Number, Text, kind_of}
-use Rattle.lsp_requests.specs.Answers.{version}
-use Rattle.lsp_requests.specs.declared.code.ErrorCode.TheVariants.{InvalidRequest}
+use Rattle.lsp_requests.specs.Answers.{code_of, message_of, version}
+use Rattle.lsp_requests.specs.declared.code.ErrorCode.TheVariants.{InvalidRequest, RequestFailed}
+use Rattle.lsp_requests.specs.declared.code.Failure.TheVariants.{NameInUse}
 
 -- a message with an id, and one without
 abbrev with_id : Data → Members → Data
@@ -25,3 +26,5 @@ pub record Examples : Type 0 where
   pub no_version : kind_of (object (calls (codes "exit"))) ≡ Malformed InvalidRequest
   pub no_object : kind_of null ≡ Malformed InvalidRequest
   pub nothing_said : kind_of (without_id no_members) ≡ Malformed InvalidRequest
+  pub failed : code_of (RequestFailed NameInUse) ≡ negsuc 32802
+  pub in_use : message_of (RequestFailed NameInUse) ≡ codes "This name is in use there"

@@ -1,6 +1,6 @@
 // Codes of errors.
 ghost use Rattle.std.specs.Prelude.{◌≡◌};
-ghost use Rattle.lsp_requests.specs.Answers.{code_of, message_of};
+ghost use Rattle.lsp_requests.specs.Answers.{code_of, failure_message, message_of};
 
 /// Why a request has no result.
 #[derive(Clone, Copy, Debug, PartialEq, Eq)]
@@ -18,6 +18,19 @@ pub enum ErrorCode {
     Cancelled,
     /// The document changed while the request was served.
     ContentModified,
+    /// The request is one that this text does not allow.
+    RequestFailed(Failure),
+}
+
+/// Why a text does not allow what a request asks of it.
+#[derive(Clone, Copy, Debug, PartialEq, Eq)]
+pub enum Failure {
+    /// Nothing that can get another name stands at the place.
+    NothingNamed,
+    /// The new name is no name of the language.
+    NoName,
+    /// The new name is in use where the thing is named.
+    NameInUse,
 }
 
 impl ErrorCode {
@@ -34,6 +47,7 @@ impl ErrorCode {
             ErrorCode::NotInitialized => -32002,
             ErrorCode::Cancelled => -32800,
             ErrorCode::ContentModified => -32801,
+            ErrorCode::RequestFailed(_) => -32803,
         }
     }
 
@@ -50,6 +64,20 @@ impl ErrorCode {
             ErrorCode::NotInitialized => "Server not initialized",
             ErrorCode::Cancelled => "Request cancelled",
             ErrorCode::ContentModified => "Content modified",
+            ErrorCode::RequestFailed(failure) => failure.message(),
+        }
+    }
+}
+
+impl Failure {
+    /// What it says.
+    pub fn message(self) -> &'static str
+        ensures { result.now ≡ failure_message self }
+    {
+        match self {
+            Failure::NothingNamed => "Nothing that can get another name stands there",
+            Failure::NoName => "This is no name of the language",
+            Failure::NameInUse => "This name is in use there",
         }
     }
 }

@@ -8,6 +8,6 @@ mod message;
 mod reading;
 
 pub use answer::{error_text, notification_text, result_text};
-pub use code::ErrorCode;
+pub use code::{ErrorCode, Failure};
 pub use message::{Id, Kind, Message};
 pub use reading::read_message;

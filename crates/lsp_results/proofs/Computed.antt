@@ -10,4 +10,8 @@ examples_hold = record {
   at_start = refl;
   at_end = refl;
   in_nothing = refl;
+  stands_at_end = refl;
+  first_of_two = refl;
+  stands_nowhere = refl;
+  refused = refl;
 }

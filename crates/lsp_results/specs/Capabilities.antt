@@ -16,13 +16,18 @@ sync_json = object (member (codes "change") (natural 2) (member (codes "openClos
 abbrev pub kinds_json : Data
 kinds_json = object (member (codes "codeActionKinds") (list_json (string (codes "quickfix") ∷ [])) no_members)
 
+-- before another name is asked for, it is asked where the present one stands
+abbrev pub renames_json : Data
+renames_json = object (member (codes "prepareProvider") (boolean true) no_members)
+
 abbrev pub capabilities_json : Encoding → Data
 capabilities_json encoding =
     object (member (codes "codeActionProvider") kinds_json (member (codes "codeLensProvider") (object no_members)
     (member (codes "definitionProvider") (boolean true) (member (codes "documentHighlightProvider") (boolean true)
+    (member (codes "documentSymbolProvider") (boolean true) (member (codes "foldingRangeProvider") (boolean true)
     (member (codes "hoverProvider") (boolean true) (member (codes "inlayHintProvider") (boolean true)
     (member (codes "positionEncoding") (string (encoding_name encoding)) (member (codes "referencesProvider") (boolean true)
-    (member (codes "textDocumentSync") sync_json no_members)))))))))
+    (member (codes "renameProvider") renames_json (member (codes "textDocumentSync") sync_json no_members))))))))))))
 
 abbrev pub server_json : Data
 server_json = object (member (codes "name") (string (codes "explain")) no_members)

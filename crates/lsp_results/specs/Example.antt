@@ -1,10 +1,15 @@
 -- Small results, worked out by hand.
-use Rattle.std.specs.Prelude.{◌≡◌, ℕ, List, [], ◌∷◌, true, false}
+use Rattle.std.specs.Prelude.{◌≡◌, ℕ, List, [], ◌∷◌, codes, true, false, None, Some, Err}
 use Rattle.serde_json.specs.Data.{Data}
 use Rattle.lsp_positions.specs.declared.position.Encoding.TheVariants.{Utf16, Utf8}
 use Rattle.lsp_language.specs.declared.span.Span.{Span}
 use Rattle.lsp_results.specs.Places.{position_json, range_json, span_json}
+use Rattle.lsp_language.specs.declared.names.Refusal.TheVariants.{InUse}
+use Rattle.lsp_language.specs.declared.names.Renaming.TheVariants.{Refused}
+use Rattle.lsp_requests.specs.declared.code.ErrorCode.TheVariants.{RequestFailed}
+use Rattle.lsp_requests.specs.declared.code.Failure.TheVariants.{NameInUse}
 use Rattle.lsp_results.specs.Hovers.{holds}
+use Rattle.lsp_results.specs.Renames.{part_at, renaming_answer}
 
 -- a face (4 bytes, 2 units of UTF-16), 'a', a newline, 'b'
 abbrev text : List ℕ
@@ -24,3 +29,7 @@ pub record Examples : Type 0 where
   pub at_start : holds (part 4 7) 4 ≡ true
   pub at_end : holds (part 4 7) 7 ≡ false
   pub in_nothing : holds (part 4 4) 4 ≡ true
+  pub stands_at_end : part_at 7 (part 0 4 ∷ part 4 7 ∷ []) ≡ Some (part 4 7)
+  pub first_of_two : part_at 4 (part 0 4 ∷ part 4 7 ∷ []) ≡ Some (part 0 4)
+  pub stands_nowhere : part_at 5 (part 0 4 ∷ []) ≡ None
+  pub refused : renaming_answer Utf8 text (codes "u") (codes "b") (Refused InUse) ≡ Err (RequestFailed NameInUse)

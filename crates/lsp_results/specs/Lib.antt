@@ -3,6 +3,9 @@ pub mod Hovers
 pub mod Marks
 pub mod Actions
 pub mod Diagnostics
+pub mod Answers
+pub mod Outline
+pub mod Renames
 pub mod Names
 pub mod Capabilities
 pub mod Results

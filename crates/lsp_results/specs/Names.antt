@@ -7,9 +7,11 @@ use Rattle.lsp_language.specs.Telling.{Telling}
 use Rattle.lsp_language.specs.declared.names.Named.{Named}
 use Rattle.lsp_language.specs.declared.span.Span.{Span}
 use Rattle.lsp_params.specs.declared.asking.NamesAsk.{NamesAsk}
-use Rattle.lsp_params.specs.declared.asking.NamesAsk.TheVariants.{Definition, References, Highlights}
+use Rattle.lsp_params.specs.declared.asking.NamesAsk.TheVariants.{Definition, References, Highlights, Symbols, Folds, Prepare}
 use Rattle.lsp_results.specs.Places.{natural, list_json, span_json}
 use Rattle.lsp_results.specs.Diagnostics.{location_json}
+use Rattle.lsp_results.specs.Outline.{IsOfSymbols, symbols_json, folds_json}
+use Rattle.lsp_results.specs.Renames.{prepared_json}
 
 abbrev pub location_of : Encoding → List ℕ → List ℕ → Span → Data
 location_of encoding text uri span = location_json (span_json encoding text span) uri
@@ -47,3 +49,7 @@ IsOfNames tells encoding text uri (References position declared) answer =
     IsOfNamed tells text (offset_of encoding text position) (references_json encoding text uri declared) answer
 IsOfNames tells encoding text uri (Highlights position) answer =
     IsOfNamed tells text (offset_of encoding text position) (highlights_json encoding text) answer
+IsOfNames tells encoding text uri Symbols answer = IsOfSymbols tells text (symbols_json encoding text) answer
+IsOfNames tells encoding text uri Folds answer = IsOfSymbols tells text (folds_json encoding text) answer
+IsOfNames tells encoding text uri (Prepare position) answer =
+    IsOfNamed tells text (offset_of encoding text position) (prepared_json encoding text (offset_of encoding text position)) answer

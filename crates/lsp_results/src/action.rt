@@ -62,8 +62,8 @@ fn action_value(
     Ok(Value::Object(members))
 }
 
-// Edits of one document.
-fn workspace_value(alloc: Global, uri: &str, edits: Value) -> Result<Value, AllocError>
+/// Edits of one document.
+pub fn workspace_value(alloc: Global, uri: &str, edits: Value) -> Result<Value, AllocError>
     ensures { IfOk result (λ value. view value ≡ workspace_json uri.now (view edits)) }
 {
     let changes = json!(in alloc; {(uri): edits})?;

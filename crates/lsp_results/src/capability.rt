@@ -3,7 +3,7 @@ ghost use Rattle.std.specs.Prelude.{◌≡◌, true, false, IfOk, OnOk};
 ghost use Rattle.serde_json.specs.Data.{boolean, put as with_member};
 ghost use Rattle.serde_json.specs.View.{view, members_view};
 ghost use Rattle.serde_json.specs.Written.{has_float};
-ghost use Rattle.lsp_results.specs.Capabilities.{encoding_name, sync_json, kinds_json, capabilities_json, server_json, initialized_json};
+ghost use Rattle.lsp_results.specs.Capabilities.{encoding_name, sync_json, kinds_json, renames_json, capabilities_json, server_json, initialized_json};
 
 use crate::place::put_text;
 use lsp_positions::Encoding;
@@ -44,6 +44,8 @@ fn capabilities_value(alloc: Global, encoding: Encoding) -> Result<Value, AllocE
     )?;
     put_true(&mut members, alloc, "definitionProvider")?;
     put_true(&mut members, alloc, "documentHighlightProvider")?;
+    put_true(&mut members, alloc, "documentSymbolProvider")?;
+    put_true(&mut members, alloc, "foldingRangeProvider")?;
     put_true(&mut members, alloc, "hoverProvider")?;
     put_true(&mut members, alloc, "inlayHintProvider")?;
     put_text(
@@ -53,6 +55,7 @@ fn capabilities_value(alloc: Global, encoding: Encoding) -> Result<Value, AllocE
         encoding_name(encoding),
     )?;
     put_true(&mut members, alloc, "referencesProvider")?;
+    put(&mut members, alloc, "renameProvider", renames_value(alloc)?)?;
     put(&mut members, alloc, "textDocumentSync", sync_value(alloc)?)?;
     Ok(Value::Object(members))
 }
@@ -67,6 +70,12 @@ fn kinds_value(alloc: Global) -> Result<Value, AllocError>
     ensures { IfOk result (λ value. view value ≡ kinds_json) }
 {
     json!(in alloc; {"codeActionKinds": ["quickfix"]})
+}
+
+fn renames_value(alloc: Global) -> Result<Value, AllocError>
+    ensures { IfOk result (λ value. view value ≡ renames_json) }
+{
+    json!(in alloc; {"prepareProvider": true})
 }
 
 fn sync_value(alloc: Global) -> Result<Value, AllocError>

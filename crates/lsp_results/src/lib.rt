@@ -8,9 +8,12 @@ mod hover;
 pub mod laws;
 mod mark;
 mod names;
+mod outline;
 mod place;
+mod rename;
 mod result;
 
 pub use capability::initialized_value;
 pub use diagnostic::{diagnostics_value, emptied_value, published_value};
+pub use rename::renamed_value;
 pub use result::result_value;

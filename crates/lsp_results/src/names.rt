@@ -4,7 +4,9 @@ ghost use Rattle.serde_json.specs.View.{view};
 ghost use Rattle.lsp_results.specs.Names.{IsOfNamed, IsOfNames, definition_json, highlight_json, highlights_json, location_of, references_json};
 
 use crate::diagnostic::location_value;
+use crate::outline::{folds_told, symbols_told};
 use crate::place::span_value;
+use crate::rename::prepared_told;
 use lsp_documents::Document;
 use lsp_language::{Language, Named, Span};
 use lsp_params::NamesAsk;
@@ -35,6 +37,12 @@ pub fn names_value<L: Language>(
         NamesAsk::Highlights(position) => {
             let place = document.offset(encoding, position);
             highlights_told(alloc, language, encoding, document, place)
+        }
+        NamesAsk::Symbols => symbols_told(alloc, language, encoding, document),
+        NamesAsk::Folds => folds_told(alloc, language, encoding, document),
+        NamesAsk::Prepare(position) => {
+            let place = document.offset(encoding, position);
+            prepared_told(alloc, language, encoding, document, place)
         }
     }
 }

@@ -9,6 +9,7 @@ examples_hold = record {
   stops = refl;
   early = refl;
   served = refl;
+  renames = refl;
   unknown = refl;
   cancelled = refl;
   ends = refl;

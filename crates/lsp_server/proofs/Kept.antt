@@ -7,10 +7,12 @@ use Rattle.lsp_positions.specs.declared.position.Encoding.{Encoding}
 use Rattle.lsp_language.specs.Telling.{Telling}
 use Rattle.lsp_language.specs.declared.insight.Insight.{Insight}
 use Rattle.lsp_documents.specs.Changes.{Replacement, all_changed}
+use Rattle.lsp_params.specs.Asks.{NewName}
 use Rattle.lsp_params.specs.declared.asking.Ask.{Ask}
+use Rattle.lsp_results.specs.Renames.{IsRenamed}
 use Rattle.lsp_server.specs.State.{Open}
 use Rattle.lsp_server.specs.Documents.{is_of, first_of, IsFirst, opened_at, opened, changed_to, changed_at, changed, closed_at, closed, IsLearnt, learnt, MayLearn}
-use Rattle.lsp_server.specs.Requests.{Answer, OfDocument, IsOfInsight}
+use Rattle.lsp_server.specs.Requests.{Answer, OfDocument, IsOfInsight, RenamedIn}
 
 pub opened_none : (old : List Open) (new : Open) → first_of (is_of new.uri) old ≡ None → old ++ new ∷ [] ≡ opened old new
 opened_none old new none = sym (ap (opened_at old new) none)
@@ -45,6 +47,16 @@ pub of_first : (tells : Telling) (encoding : Encoding) (uri : List ℕ) (old new
     (first : IsFirst (is_of uri) old place) → IsOfInsight tells encoding old new (place, first.document) ask answer →
     OfDocument tells encoding old new (first_of (is_of uri) old) ask answer
 of_first tells encoding uri old new place ask answer first is = subst (λ found. OfDocument tells encoding old new found ask answer) (sym first.first) is
+
+-- what is answered of another name in the document that is read at the place is what is answered of the one of the name
+pub renamed_first : (tells : Telling) (encoding : Encoding) (documents : List Open) (place : ℕ) (item : Open) (wanted : NewName) (answer : Answer) →
+    IsFirst (is_of wanted.uri) documents place → item ≡ get_or documents place item →
+    IsRenamed tells encoding item.content.text item.uri wanted.position wanted.name answer →
+    RenamedIn tells encoding (first_of (is_of wanted.uri) documents) wanted answer
+renamed_first tells encoding documents place item wanted answer first read is =
+    subst (λ found. RenamedIn tells encoding found wanted answer) (sym first.first)
+    (subst (λ (d : Open). IsRenamed tells encoding d.content.text d.uri wanted.position wanted.name answer)
+    (is_read documents place item first.document read first.there) is)
 
 pub learns : (tells : Telling) (old new : List Open) (place : ℕ) (item : Open) (insight : Insight) → place < length old →
     item ≡ get_or old place item → IsLearnt tells item item.known insight → new ≡ slice_set old place (learnt item insight) → MayLearn tells old new

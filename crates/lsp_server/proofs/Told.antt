@@ -22,7 +22,7 @@ use Rattle.lsp_server.specs.declared.life.Life.{Life}
 use Rattle.lsp_server.specs.declared.life.Life.TheVariants.{Fresh, Running, ShutDown}
 use Rattle.lsp_server.specs.declared.life.Flow.{Flow}
 use Rattle.lsp_server.specs.declared.method.Method.{Method}
-use Rattle.lsp_server.specs.declared.method.Method.TheVariants.{Initialize, Shutdown, About, Unknown}
+use Rattle.lsp_server.specs.declared.method.Method.TheVariants.{Initialize, Shutdown, About, Rename, Unknown}
 use Rattle.lsp_server.specs.declared.method.Notice.{Notice}
 use Rattle.lsp_server.specs.declared.method.Notice.TheVariants as n
 
@@ -83,6 +83,7 @@ module _ (tells : Telling) where
   running_told encoding before after Shutdown params answer is all = subst (AllTold tells) (sym is.same) all
   running_told encoding before after (About subject) params answer is all =
       text_told encoding before after answer (option_and_then (asked_of subject) params) is all
+  running_told encoding before after Rename params answer is all = subst (AllTold tells) (sym is.0) all
   running_told encoding before after Unknown params answer is all = subst (AllTold tells) (sym is.same) all
 
   answered_told : (life : Life) (encoding : Encoding) (before after : List Open) (method : Method) (params : Option Data) (answer : Answer) →

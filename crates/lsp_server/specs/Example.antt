@@ -11,7 +11,7 @@ use Rattle.lsp_params.specs.declared.asking.Subject.TheVariants.{Hover}
 use Rattle.lsp_positions.specs.declared.position.Encoding.TheVariants.{Utf16}
 use Rattle.lsp_server.specs.declared.life.Life.TheVariants.{Fresh, Running, ShutDown}
 use Rattle.lsp_server.specs.declared.life.Flow.TheVariants.{GoOn, End}
-use Rattle.lsp_server.specs.declared.method.Method.TheVariants.{Initialize, Shutdown, About, Unknown}
+use Rattle.lsp_server.specs.declared.method.Method.TheVariants.{Initialize, Shutdown, About, Rename, Unknown}
 use Rattle.lsp_server.specs.declared.method.Notice.TheVariants as n
 
 abbrev a : Open
@@ -29,7 +29,8 @@ pub record Examples : Type 0 where
   pub stops : life_after Running (method_of (codes "shutdown")) ≡ ShutDown
   pub early : fresh_answer (method_of (codes "textDocument/hover")) None ≡ Err NotInitialized
   pub served : method_of (codes "textDocument/hover") ≡ About Hover
-  pub unknown : method_of (codes "textDocument/rename") ≡ Unknown
+  pub renames : method_of (codes "textDocument/rename") ≡ Rename
+  pub unknown : method_of (codes "textDocument/completion") ≡ Unknown
   pub cancelled : notice_of (codes "$/cancelRequest") ≡ n.Other
   pub ends : flow_of ShutDown (Notification (codes "exit")) ≡ End 0
   pub ends_early : flow_of Running (Notification (codes "exit")) ≡ End 1

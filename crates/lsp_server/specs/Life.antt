@@ -5,11 +5,11 @@ use Rattle.serde_json.specs.Data.{Data}
 use Rattle.lsp_positions.specs.declared.position.Encoding.{Encoding}
 use Rattle.lsp_params.specs.Agreed.{agreed}
 use Rattle.lsp_params.specs.declared.asking.Subject.TheVariants.{Hover, Lenses, Hints, Actions, Names}
-use Rattle.lsp_params.specs.declared.asking.NamesSubject.TheVariants.{Definition, References, Highlights}
+use Rattle.lsp_params.specs.declared.asking.NamesSubject.TheVariants.{Definition, References, Highlights, Symbols, Folds, Prepare}
 use Rattle.lsp_server.specs.declared.life.Life.{Life}
 use Rattle.lsp_server.specs.declared.life.Life.TheVariants.{Fresh, Running, ShutDown}
 use Rattle.lsp_server.specs.declared.method.Method.{Method}
-use Rattle.lsp_server.specs.declared.method.Method.TheVariants.{Initialize, Shutdown, About, Unknown}
+use Rattle.lsp_server.specs.declared.method.Method.TheVariants.{Initialize, Shutdown, About, Rename, Unknown}
 use Rattle.lsp_server.specs.declared.method.Notice.{Notice}
 use Rattle.lsp_server.specs.declared.method.Notice.TheVariants.{Open, Change, Close, Exit, Other}
 
@@ -18,7 +18,11 @@ abbrev pub names_method_of : List ℕ → Method
 names_method_of name =
     cond (bytes_eq name (codes "textDocument/definition")) (About (Names Definition))
     (cond (bytes_eq name (codes "textDocument/references")) (About (Names References))
-    (cond (bytes_eq name (codes "textDocument/documentHighlight")) (About (Names Highlights)) Unknown))
+    (cond (bytes_eq name (codes "textDocument/documentHighlight")) (About (Names Highlights))
+    (cond (bytes_eq name (codes "textDocument/documentSymbol")) (About (Names Symbols))
+    (cond (bytes_eq name (codes "textDocument/foldingRange")) (About (Names Folds))
+    (cond (bytes_eq name (codes "textDocument/prepareRename")) (About (Names Prepare))
+    (cond (bytes_eq name (codes "textDocument/rename")) Rename Unknown))))))
 
 -- the requests that are served
 abbrev pub method_of : List ℕ → Method

@@ -1,16 +1,17 @@
 // Answers to requests.
 ghost use Rattle.std.specs.Prelude.{◌≡◌, IfOk, option_map, option_and_then};
 ghost use Rattle.serde_json.specs.View.{view};
-ghost use Rattle.lsp_params.specs.Asks.{asked_of};
+ghost use Rattle.lsp_params.specs.Asks.{asked_of, new_name_of};
+ghost use Rattle.lsp_params.specs.Read.{new_name_view};
 ghost use Rattle.lsp_server.specs.Documents.{MayLearn};
-ghost use Rattle.lsp_server.specs.Requests.{Answers, OfRunning, OfText, fresh_answer, answer_view, IsPlain};
+ghost use Rattle.lsp_server.specs.Requests.{Answers, OfNewName, OfRunning, OfText, fresh_answer, answer_view, IsPlain};
 
 use crate::document::OpenDocument;
-use crate::documents::text_answer;
+use crate::documents::{rename_answer, text_answer};
 use crate::life::Life;
 use crate::method::Method;
 use lsp_language::Language;
-use lsp_params::{Ask, Subject, agreed, ask_of, uri_of};
+use lsp_params::{Ask, NewName, Subject, agreed, ask_of, new_name_of, uri_of};
 use lsp_positions::Encoding;
 use lsp_requests::ErrorCode;
 use lsp_results::initialized_value;
@@ -51,7 +52,7 @@ fn fresh_answer(
 {
     match method {
         Method::Initialize => Ok(Ok(initialized_value(alloc, agreed(params))?)),
-        Method::Shutdown | Method::About(_) | Method::Unknown => {
+        Method::Shutdown | Method::About(_) | Method::Rename | Method::Unknown => {
             Ok(Err(ErrorCode::NotInitialized))
         }
     }
@@ -75,6 +76,7 @@ fn running_answer<L: Language>(
         Method::Initialize => Ok(Err(ErrorCode::InvalidRequest)),
         Method::Shutdown => Ok(Ok(Value::Null)),
         Method::About(subject) => about(documents, alloc, language, encoding, subject, params),
+        Method::Rename => rename(documents.as_slice(), alloc, language, encoding, params),
         Method::Unknown => Ok(Err(ErrorCode::MethodNotFound)),
     }
 }
@@ -108,4 +110,29 @@ fn asked<'a>(subject: Subject, params: Option<&'a Value>) -> Option<(&'a str, As
     let uri = uri_of(params)?;
     let ask = ask_of(subject, params)?;
     Some((uri, ask))
+}
+
+// The answer where another name is wanted.
+fn rename<L: Language>(
+    documents: &[OpenDocument],
+    alloc: Global,
+    language: &L,
+    encoding: Encoding,
+    params: Option<&Value>,
+) -> Result<Result<Value, ErrorCode>, AllocError>
+    ensures answers { IfOk result (λ answer. OfNewName (L.tells language.now) encoding documents.now
+        (option_and_then new_name_of (option_map (λ params. view params.now) params.entry)) (answer_view answer)) }
+    ensures plain { IfOk result (λ answer. IsPlain (answer_view answer)) }
+{
+    match wanted(params) {
+        Some(wanted) => rename_answer(documents, alloc, language, encoding, wanted),
+        None => Ok(Err(ErrorCode::InvalidParams)),
+    }
+}
+
+// The name that is wanted.
+fn wanted(params: Option<&Value>) -> Option<NewName<'_>>
+    ensures { option_map new_name_view result ≡ option_and_then new_name_of (option_map (λ params. view params.now) params.entry) }
+{
+    new_name_of(params?)
 }

@@ -4,6 +4,8 @@ ghost use Rattle.serde_json.specs.View.{view};
 ghost use Rattle.serde_json.specs.Written.{has_float};
 ghost use Rattle.lsp_documents.specs.Changes.{all_changed, replacements};
 ghost use Rattle.lsp_language.specs.declared.insight.Insight.{Insight};
+ghost use Rattle.lsp_results.specs.Answers.{IsPlain, answer_view};
+ghost use Rattle.lsp_results.specs.Renames.{IsRenamed};
 ghost use Rattle.lsp_results.specs.Results.{IsResult};
 ghost use Rattle.lsp_server.specs.Documents.{is_of, is_unpublished, fresh, changed_to, IsLearnt, learnt, published};
 ghost use Rattle.lsp_server.specs.Notices.{published_of};
@@ -11,8 +13,9 @@ ghost use Rattle.lsp_server.specs.Notices.{published_of};
 use lsp_documents::{Change, ChangeFault, Document};
 use lsp_language::{Insight, Language};
 use lsp_params::Ask;
-use lsp_positions::Encoding;
-use lsp_results::{diagnostics_value, published_value, result_value};
+use lsp_positions::{Encoding, Position};
+use lsp_requests::ErrorCode;
+use lsp_results::{diagnostics_value, published_value, renamed_value, result_value};
 use serde_json::Value;
 use std::alloc::{AllocError, Global};
 use std::marker::Model;
@@ -156,6 +159,30 @@ impl OpenDocument {
             self.uri.as_str(),
             insight,
             ask,
+        )
+    }
+
+    /// What is answered where this name is wanted for what stands at a position.
+    pub fn renamed<L: Language>(
+        &self,
+        alloc: Global,
+        language: &L,
+        encoding: Encoding,
+        position: Position,
+        name: &str,
+    ) -> Result<Result<Value, ErrorCode>, AllocError>
+        ensures answer { IfOk result (λ answer. IsRenamed (L.tells language.now) encoding
+            self.now.content.text self.now.uri position name.now (answer_view answer)) }
+        ensures plain { IfOk result (λ answer. IsPlain (answer_view answer)) }
+    {
+        renamed_value(
+            alloc,
+            language,
+            encoding,
+            &self.document,
+            self.uri.as_str(),
+            position,
+            name,
         )
     }
 

@@ -10,13 +10,14 @@ ghost use Rattle.lsp_server.specs.State.{Open};
 ghost use Rattle.lsp_server.specs.Sent.{frames};
 ghost use Rattle.lsp_server.specs.Notices.{emptied};
 ghost use Rattle.lsp_server.specs.Protocol.{IsPublished};
-ghost use Rattle.lsp_server.specs.Requests.{OfDocument, IsOfInsight, answer_view, IsPlain};
+ghost use Rattle.lsp_server.specs.Requests.{OfDocument, IsOfInsight, RenamedIn, answer_view, IsPlain};
+ghost use Rattle.lsp_params.specs.Read.{new_name_view};
 
 use crate::document::OpenDocument;
 use crate::sending::send_published;
 use lsp_documents::Change;
 use lsp_language::Language;
-use lsp_params::Ask;
+use lsp_params::{Ask, NewName};
 use lsp_positions::Encoding;
 use lsp_requests::ErrorCode;
 use lsp_results::emptied_value;
@@ -92,6 +93,28 @@ fn answer_at<L: Language>(
 {
     documents[place].learn(alloc, language)?;
     documents[place].result(alloc, language, encoding, ask)
+}
+
+/// What is answered where another name is wanted for what stands in a document.
+#[tactic(auto, using(crate::proofs::Kept::renamed_first, crate::proofs::Kept::is_read))]
+pub fn rename_answer<L: Language>(
+    documents: &[OpenDocument],
+    alloc: Global,
+    language: &L,
+    encoding: Encoding,
+    wanted: NewName<'_>,
+) -> Result<Result<Value, ErrorCode>, AllocError>
+    ensures answers { IfOk result (λ answer. RenamedIn (L.tells language.now) encoding
+        (first_of (is_of wanted.entry.uri.now) documents.now) (new_name_view wanted.entry) (answer_view answer)) }
+    ensures plain { IfOk result (λ answer. IsPlain (answer_view answer)) }
+{
+    match place_of(documents, wanted.uri) {
+        Some(place) => {
+            let document = &documents[place];
+            document.renamed(alloc, language, encoding, wanted.position, wanted.name)
+        }
+        None => Ok(Err(ErrorCode::InvalidParams)),
+    }
 }
 
 /// Opens a document, in the place of one that is open by its name.

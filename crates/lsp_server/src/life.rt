@@ -81,7 +81,7 @@ fn after_fresh(method: Method) -> Life
 {
     match method {
         Method::Initialize => Life::Running,
-        Method::Shutdown | Method::About(_) | Method::Unknown => Life::Fresh,
+        Method::Shutdown | Method::About(_) | Method::Rename | Method::Unknown => Life::Fresh,
     }
 }
 
@@ -90,7 +90,7 @@ fn after_running(method: Method) -> Life
 {
     match method {
         Method::Shutdown => Life::ShutDown,
-        Method::Initialize | Method::About(_) | Method::Unknown => Life::Running,
+        Method::Initialize | Method::About(_) | Method::Rename | Method::Unknown => Life::Running,
     }
 }
 
@@ -99,6 +99,6 @@ fn encoding_after_fresh(encoding: Encoding, method: Method, params: Option<&Valu
 {
     match method {
         Method::Initialize => agreed(params),
-        Method::Shutdown | Method::About(_) | Method::Unknown => encoding,
+        Method::Shutdown | Method::About(_) | Method::Rename | Method::Unknown => encoding,
     }
 }

@@ -11,6 +11,8 @@ pub enum Method {
     Shutdown,
     /// It asks something of a text.
     About(Subject),
+    /// It asks for another name.
+    Rename,
     Unknown,
 }
 
@@ -55,6 +57,14 @@ fn names_method_of(name: &str) -> Method
         Method::About(Subject::Names(NamesSubject::References))
     } else if name == "textDocument/documentHighlight" {
         Method::About(Subject::Names(NamesSubject::Highlights))
+    } else if name == "textDocument/documentSymbol" {
+        Method::About(Subject::Names(NamesSubject::Symbols))
+    } else if name == "textDocument/foldingRange" {
+        Method::About(Subject::Names(NamesSubject::Folds))
+    } else if name == "textDocument/prepareRename" {
+        Method::About(Subject::Names(NamesSubject::Prepare))
+    } else if name == "textDocument/rename" {
+        Method::Rename
     } else {
         Method::Unknown
     }

@@ -1,4 +1,4 @@
-use Rattle.std.proofs.Common.{◌≡◌, inl, inr, length, map, drop, arith}
+use Rattle.std.proofs.Common.{inl, inr, map, drop, arith}
 use Rattle.raml_syntax.specs.Read.{function_of}
 use Rattle.explain_scopes.specs.Scopes.{named_at}
 use Rattle.explain_scopes.specs.Read.{bounds_of, places_of}

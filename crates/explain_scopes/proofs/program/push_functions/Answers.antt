@@ -1,4 +1,4 @@
-use Rattle.std.proofs.Common.{◌≡◌, ◌++◌, map, drop, arith}
+use Rattle.std.proofs.Common.{◌++◌, map, drop, arith}
 use Rattle.raml_syntax.specs.Read.{function_of}
 use Rattle.explain_scopes.specs.Scopes.{names_of_all}
 use Rattle.explain_scopes.specs.Read.{bounds_of, occurrences_of}

@@ -1,4 +1,4 @@
-use Rattle.std.proofs.Common.{◌≡◌, List}
+use Rattle.std.proofs.Common.{List}
 use Rattle.raml_parse.specs.Spelling.{HasTokens}
 use Rattle.parse_table.specs.Tokens.{Token}
 use Rattle.explain_scopes.proofs.source.with_tokens.Goals as goal

@@ -1,7 +1,7 @@
 use Rattle.std.proofs.Common.{◌≡◌, ◌∙◌, sym}
 use Rattle.raml_lex.specs.declared.token.LexFault.TheVariants.{BadChar, NumberTooWide, OpenComment, NoMemory}
 use Rattle.explain_scopes.proofs.Stepping.{no_tokens}
-use Rattle.explain_scopes.proofs.source.tokens_in.Goals as goal
+use Rattle.explain_scopes.proofs.lexed.lexed.Goals as goal
 
 pub returns-in-Err-BadChar : goal.returns-in-Err-BadChar
 returns-in-Err-BadChar c =
